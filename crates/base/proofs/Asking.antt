@@ -1,0 +1,45 @@
+-- Questions and answers: what a yes and a no leave, and what an answer says of its questions.
+use mathlib.Core.Path.{_≡_, refl, sym, ap, _∙_}
+use mathlib.Core.Bool.{Bool, true, false}
+use Prim.Native.Nat.{ℕ}
+use native.Mathlib.Omega.{arith}
+use Rattle.base.specs.declared.refusal.Refusal.{Refusal}
+use Rattle.base.specs.Answers.{Answer, refused, gives, ask, bind}
+
+pub never : {A : Type 0} {r : Refusal} {a : A} {P : Type 0} → gives a ≡ refused r → P
+never e = let z : _≡_ {A = ℕ} 0 1 = cc in absurd (let b : ⊥ = omega arith in b)
+
+pub gives-inj : {A : Type 0} {a b : A} → gives a ≡ gives b → a ≡ b
+gives-inj e = cc
+
+pub refused-inj : {A : Type 0} {a b : Refusal} → _≡_ {A = Answer A} (refused a) (refused b) → a ≡ b
+refused-inj e = cc
+
+module _ {A : Type 0} (b : Bool) (r : Refusal) (next : Answer A) where
+  pub ask-yes : b ≡ true → ask b r next ≡ next
+  unfolding ask
+  ask-yes e = ap (λ (t : Bool). ask t r next) e
+
+  pub ask-no : b ≡ false → ask b r next ≡ refused r
+  unfolding ask
+  ask-no e = ap (λ (t : Bool). ask t r next) e
+
+-- an accepted answer stands behind a yes
+pub asked-yes : {A : Type 0} (b : Bool) (r : Refusal) (next : Answer A) (x : A) → ask b r next ≡ gives x → (b ≡ true) × (next ≡ gives x)
+unfolding ask
+asked-yes true r next x e = (refl, e)
+asked-yes false r next x e = never (sym e)
+
+pub bind-gives : {A B : Type 0} (a : Answer A) (f : A → Answer B) (x : A) → a ≡ gives x → bind a f ≡ f x
+unfolding bind
+bind-gives a f x e = ap (λ (t : Answer _). bind t f) e
+
+pub bind-refused : {A B : Type 0} (a : Answer A) (f : A → Answer B) (r : Refusal) → a ≡ refused r → bind a f ≡ refused r
+unfolding bind
+bind-refused a f r e = ap (λ (t : Answer _). bind t f) e
+
+-- an accepted answer stands behind an accepted one
+pub bound : {A B : Type 0} (a : Answer A) (f : A → Answer B) (y : B) → bind a f ≡ gives y → (x : A) × (a ≡ gives x) × (f x ≡ gives y)
+unfolding bind
+bound (refused r) f y e = never (sym e)
+bound (gives x) f y e = (x, refl, e)
