@@ -1,6 +1,7 @@
 -- What a call answers: a result, or the refusal of the first question whose answer is no.
 use mathlib.Core.Bool.{Bool, true, false}
-use Prim.Native.Nat.{ℕ}
+use mathlib.Core.List.{List, [], _∷_}
+use Prim.Native.Nat.{ℕ, suc}
 use Rattle.std.specs.declared.option.Option.{Option}
 use Rattle.std.specs.declared.option.Option.the-variants.{Some, None}
 use Rattle.std.specs.declared.result.Result.{Result}
@@ -22,6 +23,12 @@ ask false r next = refused r
 unfoldable pub bind : {A B : Type 0} → Answer A → (A → Answer B) → Answer B
 bind (refused r) f = refused r
 bind (gives a) f = f a
+
+-- the place of the first no in a list of answers; their number where there is none
+abbrev pub first-no : List Bool → ℕ
+first-no [] = 0
+first-no (true ∷ bs) = suc (first-no bs)
+first-no (false ∷ bs) = 0
 
 -- what a call of the code answers, given what its results and its faults mean
 abbrev pub answer-of : {T E A : Type 0} → (T → A) → (E → Refusal) → Result T E → Answer A

@@ -16,7 +16,7 @@ pub returns : need.returns
 returns c =
     let os = c .args .octets .now in
     let w : c .loop-octet .n ≡ big-endian os % 2 ^ 64 =
-        c .loop-octet .inv ∙ ap (λ l. big-endian l % 2 ^ 64) (take-all (c .loop-octet .octet-index) os (c .loop-octet-test .left)) in
+    c .loop-octet .inv ∙ ap (λ l. big-endian l % 2 ^ 64) (take-all (c .loop-octet .octet-index) os (c .loop-octet-test .left)) in
     record {
       wrapped = w;
       exact = λ few. w ∙ mod-eq-of-lt (big-endian-small os (λ i. omega (arith, c .typed .octets i)) few);

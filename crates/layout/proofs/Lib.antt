@@ -1,0 +1,5 @@
+pub mod Nths
+pub mod Misfits
+pub mod Made
+pub mod Passing
+pub mod Tabled
