@@ -3,8 +3,11 @@ use mathlib.Core.Path.{_≡_, refl, sym, ap, _∙_}
 use mathlib.Core.Bool.{Bool, true, false}
 use Prim.Native.Nat.{ℕ}
 use native.Mathlib.Omega.{arith}
+use Rattle.std.specs.declared.result.Result.{Result}
+use Rattle.std.specs.Results.{ErrBy}
+use Rattle.std.proofs.shelf.Results.{err-from-errBy}
 use Rattle.base.specs.declared.refusal.Refusal.{Refusal}
-use Rattle.base.specs.Answers.{Answer, refused, gives, ask, bind}
+use Rattle.base.specs.Answers.{Answer, refused, gives, ask, bind, answer-of}
 
 pub never : {A : Type 0} {r : Refusal} {a : A} {P : Type 0} → gives a ≡ refused r → P
 never e = let z : _≡_ {A = ℕ} 0 1 = cc in absurd (let b : ⊥ = omega arith in b)
@@ -43,3 +46,10 @@ pub bound : {A B : Type 0} (a : Answer A) (f : A → Answer B) (y : B) → bind 
 unfolding bind
 bound (refused r) f y e = never (sym e)
 bound (gives x) f y e = (x, refl, e)
+
+-- what a call answers where a `?` leaves it with the fault e
+pub answer-at-break : {T E A : Type 0} (f : T → A) (g : E → Refusal) (r : Result T E) (e : E) (a : Answer A)
+    → ErrBy r (λ y. y ≡ e) → a ≡ refused (g e) → answer-of f g r ≡ a
+answer-at-break f g r e a by h =
+    let p = err-from-errBy r by in
+    ap (answer-of f g) (p .1) ∙ ap (λ y. refused (g y)) (p .2) ∙ sym h

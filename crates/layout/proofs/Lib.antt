@@ -3,3 +3,4 @@ pub mod Misfits
 pub mod Made
 pub mod Passing
 pub mod Tabled
+pub mod Hooks

@@ -1,0 +1,9 @@
+pub mod Pieces
+pub mod Rows
+pub mod Plain
+pub mod Surveys
+pub mod Faults
+pub mod Reading
+pub mod Laws
+pub mod Worked
+pub mod Views

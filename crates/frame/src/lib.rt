@@ -1,0 +1,7 @@
+//! The frame by a layout: read, with questions 1 to 13.
+pub mod fault;
+mod fill;
+mod item;
+pub mod read;
+pub mod row;
+mod survey;

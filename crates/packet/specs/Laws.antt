@@ -1,0 +1,55 @@
+-- What a chain of headers is, by the octets that it stands for.
+use mathlib.Core.Path.{_≡_}
+use mathlib.Core.List.{List, [], _∷_, _++_}
+use Prim.Native.Nat.{ℕ, _+_, _*_, _/_, _%_, _≤_, _<_}
+use lib.ListN.{length, getD, take, drop}
+use Rattle.std.specs.Holes.{between}
+use Rattle.base.specs.Answers.{gives}
+use Rattle.packet.specs.Chains.{HeaderMeaning, Chain, chain-of}
+use Rattle.packet.specs.Containers.{Located}
+
+-- the type that announces a list of headers: that of the first, and 0 where there is none
+abbrev pub announced : List HeaderMeaning → ℕ
+announced [] = 0
+announced (h ∷ hs) = h .type
+
+-- the units of a header, which count its first octet, its content and the type behind it
+abbrev pub units : HeaderMeaning → ℕ
+units h = (length (h .content) + 2) / 4
+
+-- headers put one after another: the unit count, the content, the type of the next
+abbrev pub laid-out : List HeaderMeaning → List ℕ
+laid-out [] = []
+laid-out (h ∷ hs) = units h ∷ (h .content ++ announced hs ∷ laid-out hs)
+
+-- each header has a type other than 0, content of 4n - 2 octets, and stands where the one before it ends
+abbrev pub InPlace : ℕ → List HeaderMeaning → Type 0
+InPlace p [] = Unit {0}
+InPlace p (h ∷ hs) = (h .type ≡ 0 → ⊥) × ((length (h .content) + 2) % 4 ≡ 0) × (h .place ≡ p) × InPlace (p + 4 * units h) hs
+
+-- The headers, put one after another, are exactly the packet's octets from 12 to the chain's end.
+pub record IsChain (k : List ℕ) (c : Chain) : Type 0 where
+  pub first : getD k 11 0 ≡ announced (c .headers)
+  pub places : InPlace 12 (c .headers)
+  pub octets : between 12 (c .end) k ≡ laid-out (c .headers)
+  pub inside : (12 ≤ c .end) × (c .end ≤ length k)
+
+-- Of every packet: where the walk accepts, its headers are the packet's chain, and no other headers are.
+abbrev pub Walk-is-chain : Type 0
+Walk-is-chain =
+    (k : List ℕ) → 12 ≤ length k → length k ≤ 9216
+    → (c : Chain) → (chain-of k ≡ gives c → IsChain k c) × (IsChain k c → chain-of k ≡ gives c)
+
+-- where a container that is found lies: what its packet, the first n octets of the buffer b, has before, in and behind it
+pub record Inside (b : List ℕ) (n : ℕ) (w : Located) : Type 0 where
+  pub least : 12 ≤ n
+  pub most : n ≤ 9216
+  pub held : n ≤ length b
+  pub from : 12 ≤ w .place
+  pub before-end : w .place + 1 + length (w .frame) < w .end
+  pub to : w .end ≤ n
+  pub count : 4 * getD (take n b) (w .place) 0 ≡ length (w .frame) + 2
+  pub whole : (length (w .frame) + 2) % 4 ≡ 0
+  pub some : 2 ≤ length (w .frame)
+  pub frame : w .frame ≡ take (length (w .frame)) (drop (w .place + 1) (take n b))
+  pub inner : w .inner ≡ drop (w .end) (take n b)
