@@ -1,1 +1,5 @@
 pub mod Lines
+pub mod Tests
+pub mod Replies
+pub mod Texts
+pub mod Inputs

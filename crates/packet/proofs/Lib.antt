@@ -1,5 +1,5 @@
+-- The lemmas of the packet; Containers has those for the users of the crate.
 pub mod Numbers
-pub mod Exits
 pub mod Headers
 pub mod Chains
 pub mod Walks

@@ -1,7 +1,7 @@
 -- One bit of an octet under a mask, and the number that two octets write.
-use mathlib.Core.Path.{_≡_, refl, sym, ap, _∙_}
-use mathlib.Core.List.{List, [], _∷_}
-use Prim.Native.Nat.{ℕ, _+_, _*_, _/_, _%_, _^_, _<_, _≤_}
+use mathlib.Core.Path.{_≡_, ap, _∙_}
+use mathlib.Core.List.{List, _∷_}
+use Prim.Native.Nat.{ℕ, _+_, _*_, _/_, _%_, _^_, _<_}
 use native.Mathlib.Nat.{div-self, mod-self}
 use native.Mathlib.Omega.{arith}
 use lib.Bits.{bitAnd}
@@ -14,14 +14,13 @@ pub and-bit : (v k : ℕ) → bitAnd v (2 ^ k) ≡ bit k v * 2 ^ k
 and-bit v k =
     let m = 2 ^ k in
     let pos = pow-pos k in
-    let one : m / m ≡ 1 = div-self pos in
-    let high : bitAnd v m / m ≡ bit k v = and-shr v m k ∙ ap (bitAnd (v / m)) one ∙ and-mask (v / m) 1 in
-    let low : bitAnd v m % m ≡ 0 =
-        and-mod v m k ∙ ap (bitAnd (v % m)) (mod-self m) ∙ omega (arith, and-le-r (v % m) 0) in
-    omega (arith, shr-split (bitAnd v m) k, ap (λ n. n * m) high, low)
+    let high : bitAnd v m / m ≡ bit k v = and-shr v m k ∙ ap (bitAnd (v / m)) (div-self pos) ∙ and-mask (v / m) 1 in
+    let low : bitAnd v m % m ≡ bitAnd (v % m) 0 = and-mod v m k ∙ ap (bitAnd (v % m)) (mod-self m) in
+    omega (arith, shr-split (bitAnd v m) k, ap (λ n. n * m) high, low, and-le-r (v % m) 0)
 
-pub two-octets : (k : List ℕ) (i : ℕ) → i + 1 < length k → big-endian (take 2 (drop i k)) ≡ getD k i 0 * 256 + getD k (i + 1) 0
-two-octets k i h =
-    let e : drop i k ≡ getD k i 0 ∷ (getD k (i + 1) 0 ∷ drop (i + 1 + 1) k) =
-        drop-more k i 0 (omega arith) ∙ ap (λ l. getD k i 0 ∷ l) (drop-more k (i + 1) 0 h) in
-    ap (λ l. big-endian (take 2 l)) e ∙ omega arith
+pub big-endian-two
+    : (k : List ℕ) (i : ℕ) → i + 1 < length k → big-endian (take 2 (drop i k)) ≡ getD k i 0 * 256 + getD k (i + 1) 0
+big-endian-two k i h =
+    let first = drop-more k i 0 (omega arith) in
+    let second = ap (λ l. getD k i 0 ∷ l) (drop-more k (i + 1) 0 h) in
+    ap (λ l. big-endian (take 2 l)) (first ∙ second) ∙ omega arith

@@ -1,12 +1,12 @@
 -- The one PDU session container of a packet: questions 5 to 10.
 use mathlib.Core.List.{List, [], _∷_}
-use mathlib.Core.Bool.{Bool, true, false, _&&_, cond}
+use mathlib.Core.Bool.{Bool, _&&_, cond}
 use Prim.Native.Nat.{ℕ, _-_, _/_}
-use lib.Dec.{leb, ltb, eqb}
+use lib.Dec.{leb, eqb}
 use lib.ListN.{length, getD, take, drop}
 use Rattle.base.specs.Answers.{Answer, refused, gives, ask, bind, no-packet}
 use Rattle.base.specs.Octets.{bit, big-endian}
-use Rattle.packet.specs.Chains.{HeaderMeaning, Chain, chain-of}
+use Rattle.packet.specs.Chains.{HeaderMeaning, chain-of}
 
 -- the type of the PDU session container
 abbrev pub is-container : HeaderMeaning → Bool
@@ -54,7 +54,10 @@ located k =
     bind (first-octets k)
     (λ _. bind (chain-of k) (λ c. bind (only-container (c .headers) (c .end)) (λ h. gives (located-at k (c .end) h))))
 
+-- question 5: has the packet 12 to 9,216 octets, all in the buffer?
+abbrev pub count-right : List ℕ → ℕ → Bool
+count-right buffer n = leb 12 n && (leb n 9216 && leb n (length buffer))
+
 -- questions 5 to 10 of a packet, the first n octets of a buffer
 unfoldable pub container : List ℕ → ℕ → Answer Located
-container buffer n =
-    ask (leb 12 n && (leb n 9216 && leb n (length buffer))) (no-packet 5 n) (located (take n buffer))
+container buffer n = ask (count-right buffer n) (no-packet 5 n) (located (take n buffer))

@@ -1,5 +1,4 @@
 -- The refusal that each fault is.
-use Prim.Native.Nat.{ℕ}
 use Rattle.base.specs.declared.refusal.Refusal.{Refusal}
 use Rattle.base.specs.Answers.{no-packet}
 use Rattle.packet.specs.declared.fault.PacketFault.{PacketFault}

@@ -1,4 +1,4 @@
--- What a chain of headers is, by the octets that it stands for.
+-- Laws of the packet: what a chain of headers is, by the octets that it stands for, and where a container lies.
 use mathlib.Core.Path.{_≡_}
 use mathlib.Core.List.{List, [], _∷_, _++_}
 use Prim.Native.Nat.{ℕ, _+_, _*_, _/_, _%_, _≤_, _<_}
@@ -40,7 +40,8 @@ Walk-is-chain =
     (k : List ℕ) → 12 ≤ length k → length k ≤ 9216
     → (c : Chain) → (chain-of k ≡ gives c → IsChain k c) × (IsChain k c → chain-of k ≡ gives c)
 
--- where a container that is found lies: what its packet, the first n octets of the buffer b, has before, in and behind it
+-- Where a container that is found lies, its packet being the first n octets of the buffer b: the packet's count, the
+-- container between the first octets and the chain's end, its unit count, and the parts that are its frame and the inner packet.
 pub record Inside (b : List ℕ) (n : ℕ) (w : Located) : Type 0 where
   pub least : 12 ≤ n
   pub most : n ≤ 9216

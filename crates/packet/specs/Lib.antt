@@ -1,3 +1,4 @@
+-- The definitions of the packet, each built on those before it.
 pub mod Chains
 pub mod Containers
 pub mod Faults

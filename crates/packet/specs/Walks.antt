@@ -1,5 +1,5 @@
 -- What a walk over the chain has seen of containers, and what that makes of the headers still to come.
-use mathlib.Core.List.{List, [], _∷_}
+use mathlib.Core.List.{List}
 use mathlib.Core.Bool.{cond}
 use Prim.Native.Nat.{ℕ}
 use lib.ListN.{drop}

@@ -31,19 +31,30 @@ pub fn step<'a>(kind: u8, rest: &'a [u8], place: usize) -> (Header<'a>, &'a [u8]
 {
     let size = stated_size(rest);
     let content = octets_between(rest, 1, size.saturating_sub(1));
-    let back = octets_from(rest, size);
-    if kind == CONTAINER {
-        (Header::Container { frame: content, place }, back)
+    let header = if kind == CONTAINER {
+        Header::Container {
+            frame: content,
+            place,
+        }
     } else {
-        (Header::Other { kind, content, place }, back)
-    }
+        Header::Other {
+            kind,
+            content,
+            place,
+        }
+    };
+    (header, octets_from(rest, size))
 }
 
 // The octets of the first header by its unit count, four to a unit; none where there is no count.
 fn stated_size(rest: &[u8]) -> usize
     ensures { λ r. ⌜ r ≡ header-size (now (rest .entry)) ⌝ }
 {
-    if rest.is_empty() { 0 } else { 4 * rest[0] as usize }
+    if rest.is_empty() {
+        0
+    } else {
+        4 * rest[0] as usize
+    }
 }
 
 // The octets from `from` up to `to`, those of them that there are.
@@ -57,5 +68,9 @@ fn octets_between(octets: &[u8], from: usize, to: usize) -> &[u8]
 fn octets_from(octets: &[u8], from: usize) -> &[u8]
     ensures { λ r. ⌜ now r ≡ drop from (now (octets .entry)) ⌝ }
 {
-    if from < octets.len() { &octets[from..] } else { &[] }
+    if from < octets.len() {
+        &octets[from..]
+    } else {
+        &[]
+    }
 }

@@ -13,11 +13,11 @@ use crate::octets::EXTENDED;
 use crate::octets::FIRST_OCTETS;
 use crate::octets::FLAGS;
 use crate::octets::G_PDU;
+use crate::octets::GTP_1;
 use crate::octets::LENGTH;
 use crate::octets::MESSAGE_TYPE;
 use crate::octets::MOST_OCTETS;
 use crate::octets::UNCOUNTED;
-use crate::octets::GTP_1;
 use crate::walk::Met;
 use crate::walk::Walked;
 use crate::walk::walk;
@@ -31,7 +31,8 @@ pub struct Found<'a> {
     pub inner: &'a [u8],
 }
 
-/// Finds the one container of the packet that is the first `count` octets of the buffer: questions 5 to 10.
+/// Finds the one container of the packet that is the first `count` octets of the buffer, or gives the first
+/// no to the questions 5 to 10.
 pub fn find_container(buffer: &[u8], count: usize) -> Result<Found<'_>, PacketFault>
     ensures answer { λ r. ⌜ answer-of located-of packet-refusal r ≡ container-in (now (buffer .entry)) count ⌝ }
     ensures chain { λ _. ⌜ Walk-is-chain ⌝ }
@@ -55,7 +56,7 @@ fn find_in_packet(buffer: &[u8], count: usize) -> Result<Found<'_>, PacketFault>
     one_container(walk(packet)?)
 }
 
-// Questions 6 to 8, of octets that a packet of twelve or more has.
+// Questions 6 to 8: all that they look at stands in the first twelve octets.
 fn check_first_octets(packet: &[u8]) -> Result<(), PacketFault>
     requires { ⌜ 12 ≤ length (now packet) ⌝ }
     ensures { λ r. ⌜ answer-of (λ u. u) packet-refusal r ≡ first-octets (now (packet .entry)) ⌝ }
@@ -78,10 +79,19 @@ fn check_first_octets(packet: &[u8]) -> Result<(), PacketFault>
 fn one_container(walked: Walked<'_>) -> Result<Found<'_>, PacketFault>
     ensures { λ r. ⌜ answer-of located-of packet-refusal r ≡ found-by (walked-of (walked .entry)) ⌝ }
 {
-    let Walked { met, chain_end, inner } = walked;
+    let Walked {
+        met,
+        chain_end,
+        inner,
+    } = walked;
     match met {
         Met::Nothing => Err(PacketFault::Container { place: chain_end }),
-        Met::One { frame, place } => Ok(Found { place, frame, chain_end, inner }),
+        Met::One { frame, place } => Ok(Found {
+            place,
+            frame,
+            chain_end,
+            inner,
+        }),
         Met::Second { place } => Err(PacketFault::Container { place }),
     }
 }

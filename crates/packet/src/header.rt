@@ -3,7 +3,10 @@
 /// An extension header, with the part of the packet that it holds and the place of its first octet.
 #[derive(Clone, Copy)]
 pub enum Header<'a> {
-    Container { frame: &'a [u8], place: usize },
+    Container {
+        frame: &'a [u8],
+        place: usize,
+    },
     Other {
         kind: u8,
         content: &'a [u8],

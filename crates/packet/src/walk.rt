@@ -48,7 +48,11 @@ pub(crate) fn walk(packet: &[u8]) -> Result<Walked<'_>, PacketFault>
         rest = back;
         place += size;
     }
-    Ok(Walked { met, chain_end: place, inner: rest })
+    Ok(Walked {
+        met,
+        chain_end: place,
+        inner: rest,
+    })
 }
 
 // What is met, with one header more.

@@ -16,7 +16,7 @@ take-min n o =
     ⊎-elim
     (λ (h : n < length o). let le : n ≤ length o = omega arith in ap (λ m. take m o) (min-eq-left le))
     (λ (h : length o ≤ n).
-      ap (λ m. take m o) (min-eq-right h) ∙ take-all (length o) o (omega arith) ∙ sym (take-all n o h))
+    ap (λ m. take m o) (min-eq-right h) ∙ take-all (length o) o (omega arith) ∙ sym (take-all n o h))
     (cases-lt n (length o))
 
 pub returns : need.returns

@@ -1,3 +1,4 @@
+-- Past the end there is no unit count.
 use Prim.Native.Nat.{_≤_}
 use native.Mathlib.Omega.{arith}
 use lib.ListN.{length}

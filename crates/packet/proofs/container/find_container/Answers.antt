@@ -1,19 +1,13 @@
-use mathlib.Core.Path.{_≡_, sym, ap, _∙_}
-use mathlib.Core.Bool.{Bool, false, _&&_}
-use Prim.Native.Nat.{_-_}
+-- A count that is refused is one to which the definition says no.
+use mathlib.Core.Path.{_≡_, sym}
+use mathlib.Core.Bool.{false}
 use native.Mathlib.Omega.{arith}
-use lib.Dec.{leb}
-use lib.ListN.{length, take}
+use lib.ListN.{take}
 use Rattle.std.proofs.shelf.Ways.{tells}
-use Rattle.std.proofs.shelf.Results.{err-from-errBy}
-use Rattle.base.specs.Answers.{answer-of, gives, refused, no-packet, bind}
-use Rattle.base.proofs.Asking.{ask-no, bind-gives, bind-refused}
-use Rattle.packet.specs.Containers.{container, located, first-octets}
-use Rattle.packet.specs.Faults.{packet-refusal}
-use Rattle.packet.specs.Views.{located-of, walked-of}
-use Rattle.packet.specs.Walks.{walk-of, found-by}
+use Rattle.base.specs.Answers.{no-packet}
+use Rattle.base.proofs.Asking.{ask-no}
+use Rattle.packet.specs.Containers.{count-right, located, container}
 use Rattle.packet.proofs.Chains.{walk-is-chain}
-use Rattle.packet.proofs.Containers.{container-by-walk}
 use Rattle.packet.proofs.container.find_container.Needs as need
 
 pub returns-then-count-lt-FIRST-OCTETS : need.returns-then-count-lt-FIRST-OCTETS
@@ -21,9 +15,5 @@ unfolding container
 returns-then-count-lt-FIRST-OCTETS c =
     let b = c .args .buffer .now in
     let n = c .args .count in
-    let no : (leb 12 n && (leb n 9216 && leb n (length b))) ≡ false = grind (arith, tells) in
-    record {
-      answer = sym (ask-no (leb 12 n && (leb n 9216 && leb n (length b))) (no-packet 5 n) (located (take n b)) no);
-      chain = walk-is-chain;
-    }
-
+    let wrong : count-right b n ≡ false = grind (arith, tells) in
+    record { answer = sym (ask-no (count-right b n) (no-packet 5 n) (located (take n b)) wrong); chain = walk-is-chain }

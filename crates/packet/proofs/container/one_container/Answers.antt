@@ -1,8 +1,5 @@
-use mathlib.Core.Path.{sym, ap}
+-- What was met decides question 10.
 use Rattle.base.specs.Answers.{bind}
-use Rattle.packet.specs.declared.walk.Met.{Met}
-use Rattle.packet.specs.Views.{walked-of}
-use Rattle.packet.specs.Walks.{found-by}
 use Rattle.packet.proofs.container.one_container.Needs as need
 
 pub returns-in-Nothing : need.returns-in-Nothing

@@ -1,3 +1,4 @@
+-- A turn keeps what the whole walk gives, and leaves fewer octets.
 use lib.ListN.{length}
 use Rattle.packet.specs.Views.{seen-of}
 use Rattle.packet.proofs.Walks.{Going}

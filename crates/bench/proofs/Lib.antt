@@ -1,0 +1,4 @@
+pub mod Pairs
+pub mod Texts
+pub mod Decoding
+pub mod Printing

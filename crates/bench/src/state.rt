@@ -1,0 +1,16 @@
+//! What the bench keeps: one packet, empty at first, in 9,216 octets.
+ghost use mathlib.Core.Path.{_≡_};
+ghost use Prim.Native.Nat.{_≤_};
+ghost use lib.ListN.{length};
+
+/// The most octets that the bench keeps.
+pub const MOST_OCTETS: usize = 9216;
+
+/// The packet is the first `count` octets of the buffer.
+#[derive(Drop)]
+pub struct Bench {
+    pub buffer: [u8; MOST_OCTETS],
+    pub count: usize,
+    ghost wide: { length buffer ≡ 9216 },
+    ghost most: { count ≤ 9216 },
+}
