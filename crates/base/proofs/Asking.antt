@@ -1,10 +1,10 @@
 -- Questions and answers: what a yes and a no leave, and what an answer says of its questions.
-use mathlib.Core.Path.{_≡_, refl, sym, ap, _∙_}
+use mathlib.Core.Path.{_≡_, refl, sym, ap, subst, _∙_}
 use mathlib.Core.Bool.{Bool, true, false}
 use Prim.Native.Nat.{ℕ}
 use native.Mathlib.Omega.{arith}
 use Rattle.std.specs.declared.result.Result.{Result}
-use Rattle.std.specs.Results.{ErrBy}
+use Rattle.std.specs.Results.{ErrBy, Cases}
 use Rattle.std.proofs.shelf.Results.{err-from-errBy}
 use Rattle.base.specs.declared.refusal.Refusal.{Refusal}
 use Rattle.base.specs.Answers.{Answer, refused, gives, ask, bind, answer-of}
@@ -53,3 +53,9 @@ pub answer-at-break : {T E A : Type 0} (f : T → A) (g : E → Refusal) (r : Re
 answer-at-break f g r e a by h =
     let p = err-from-errBy r by in
     ap (answer-of f g) (p .1) ∙ ap (λ y. refused (g y)) (p .2) ∙ sym h
+
+-- the same for a clause by cases
+pub cases-at-break : {T E : Type 0} (P : T → Type 0) (Q : E → Type 0) (r : Result T E) (e : E) → ErrBy r (λ y. y ≡ e) → Q e → Cases r P Q
+cases-at-break P Q r e by h =
+    let p = err-from-errBy r by in
+    subst (λ x. Cases x P Q) (sym (p .1)) (subst Q (sym (p .2)) h)

@@ -58,9 +58,8 @@ decoded-more ds b₀ i b x y f hb hd ex ey = record {
 pub decoded-all : (ds b₀ : List ℕ) (i : ℕ) (b : List ℕ) (n : ℕ) → Decoded ds b₀ i b → n ≡ length ds / 2 → n ≤ i → i ≤ n
     → (os : List ℕ) → Octets os → ds ≡ hex-pairs os → (n ≡ length os) × (b ≡ os ++ drop (length os) b₀)
 decoded-all ds b₀ i b n f en lo hi os h e =
-    let l : i ≡ length os = omega (arith, ap length e, length-pairs os) in
-    (
+    let l : i ≡ length os = omega (arith, ap length e, length-pairs os) in (
       omega arith,
       sym (take-append-drop i b)
-      ∙ ap₂ (λ (s t : List ℕ). s ++ t) (f .done os h e ∙ take-all i os (omega arith)) (f .beyond ∙ ap (λ (k : ℕ). drop k b₀) l),
+          ∙ ap₂ (λ (s t : List ℕ). s ++ t) (f .done os h e ∙ take-all i os (omega arith)) (f .beyond ∙ ap (λ (k : ℕ). drop k b₀) l),
     )

@@ -38,8 +38,7 @@ module _ (line fields : List ℕ) (c : ℕ) (e : line ≡ c ∷ 32 ∷ fields) w
       let d = and-parts (leb (length fields) 18432) (are-hex-digits fields) (b .1) in
       let w = written fields (d .1) (eqb-true (length fields % 2) 0 (b .0)) in
       let s = ltb-true 0 (length fields) (a .0) in
-      let m = leb-true (length fields) 18432 (d .0) in
-      (
+      let m = leb-true (length fields) 18432 (d .0) in (
         w .octets,
         w .text,
         record {

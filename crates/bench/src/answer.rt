@@ -28,7 +28,7 @@ const NO_COMMAND: Refusal = Refusal {
 
 impl Bench {
     /// A bench whose packet is empty.
-    pub fn new() -> Bench {
+    pub(crate) fn new() -> Bench {
         Bench {
             buffer: [0; 9216],
             count: 0,

@@ -22,7 +22,7 @@ fn line_end(input: &[u8]) -> usize
 }
 
 /// The first line without its end, and what is behind it; none where no line ends.
-pub fn next_line(input: &[u8]) -> Option<(&[u8], &[u8])>
+pub(crate) fn next_line(input: &[u8]) -> Option<(&[u8], &[u8])>
     ensures { λ r. ⌜ Cases r (NoEnd (now (input .entry))) (λ p. (now (input .entry) ≡ now (p .0) ++ 10 ∷ now (p .1)) × NoEnd (now (p .0))) ⌝ }
 {
     let end = line_end(input);

@@ -9,8 +9,8 @@ use crate::reply::Reply;
 use base::refusal::Refusal;
 use frame::row::Row;
 use layout::named::NamedLayout;
-use layout::published::PublishedNames;
 use layout::published::PublishedLayout;
+use layout::published::PublishedNames;
 use std::fmt;
 use std::fmt::Write;
 
@@ -57,7 +57,12 @@ fn push_rows<N: NamedLayout>(out: &mut String, layout: &N, rows: &[Row]) -> fmt:
 }
 
 /// Adds the lines of a read by a layout: its rows, and how many items are present.
-fn push_shown<N: NamedLayout>(out: &mut String, layout: &N, rows: &[Row], present: usize) -> fmt::Result
+fn push_shown<N: NamedLayout>(
+    out: &mut String,
+    layout: &N,
+    rows: &[Row],
+    present: usize,
+) -> fmt::Result
     ensures { λ r. ⌜ made r (λ _. string-bytes (now (out .exit)) ≡ string-bytes (now (out .entry)) ++ (rows-text (N·NamedLayout .names (now (layout .entry))) 0 (take (length (N·Layout .meaning (now (layout .entry)) .items)) (now (rows .entry))) ++ ok-text present)) ⌝ }
 {
     push_rows(out, layout, rows)?;

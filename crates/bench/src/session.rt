@@ -20,7 +20,7 @@ pub struct Session {
 
 impl Session {
     /// A session at its start.
-    pub fn new(heap: Global) -> Session {
+    pub(crate) fn new(heap: Global) -> Session {
         let row = Row {
             present: false,
             place: 0,
@@ -59,7 +59,7 @@ impl Session {
     }
 
     /// Answers each line that ends in what was read, and keeps the start of the next.
-    pub fn feed(&mut self, input: &[u8]) -> Result<(), AnyError> {
+    pub(crate) fn feed(&mut self, input: &[u8]) -> Result<(), AnyError> {
         let mut rest = input;
         for _ in 0..input.len() {
             let Some((line, behind)) = next_line(rest) else {
@@ -72,7 +72,7 @@ impl Session {
     }
 
     /// Answers the line that has begun, if one has: the last line may lack its end.
-    pub fn finish(&mut self) -> Result<(), AnyError> {
+    pub(crate) fn finish(&mut self) -> Result<(), AnyError> {
         if self.line.is_empty() {
             return Ok(());
         }

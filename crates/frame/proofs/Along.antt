@@ -118,7 +118,7 @@ module _ (is : List ItemMeaning) (p₀ : ℕ) (o : List ℕ) where
   unfolding surveyed cut-from
   along-all i os many p rest a e =
       let l : cut-from is [] p₀ o ≡ gives (record { pieces = a .seen; tail = rest }) =
-          a .same ∙ ap (λ (l : List ItemMeaning). cut-from l (a .seen) p rest) (drop-all i is (omega arith)) in
+      a .same ∙ ap (λ (l : List ItemMeaning). cut-from l (a .seen) p rest) (drop-all i is (omega arith)) in
       ap₂ (λ (x : List ℕ) (y : ℕ). gives (record { octets = x; present = y; tail = rest }))
       (ap (λ (k : ℕ). take k os) (sym e) ∙ a .octets) (a .counted)
       ∙ sym (bind-gives _ _ _ l)

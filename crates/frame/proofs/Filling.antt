@@ -22,7 +22,7 @@ use Rattle.layout.specs.Views.{meant}
 use Rattle.layout.proofs.Nths.{take-to-nth, lt-from-nth}
 use Rattle.frame.specs.declared.row.Row.{Row}
 use Rattle.frame.specs.Pieces.{joined, within, Cut, cut-from}
-use Rattle.frame.specs.Rows.{row-of, rows-of}
+use Rattle.frame.specs.Rows.{row-of, rows-of, filled}
 use Rattle.frame.specs.Surveys.{last-octet, size-by-octets, row-number, Surveyed}
 use Rattle.frame.proofs.Items.{row-is, rows-push, joined-push}
 use Rattle.frame.proofs.Along.{next-item}
@@ -51,16 +51,18 @@ module _ (is : List ItemMeaning) (p₀ : ℕ) (o : List ℕ) (t₀ : List Row) w
     room = refl;
   }
 
-  pub filled-all : (i : ℕ) (t : List Row) (p : ℕ) (rest : List ℕ) → Filling is p₀ o t₀ i t p rest → i ≡ length is
-      → (w : Cut) → cut-from is [] p₀ o ≡ gives w → t ≡ rows-of is p₀ (w .pieces) ++ drop (length is) t₀
+  pub filled-all : (os : List ℕ) → Surveyed is p₀ o os → (i : ℕ) (t : List Row) (p : ℕ) (rest : List ℕ) → Filling is p₀ o t₀ i t p rest → i ≡ length is
+      → t ≡ filled is p₀ (cut-from is [] p₀ o) t₀
   unfolding cut-from
-  filled-all i t p rest f e w c =
+  filled-all os s i t p rest f e =
+      let w = s .parts in
       let l : _≡_ {A = Cut} (record { pieces = f .seen; tail = rest }) w =
-          gives-inj (sym (f .same ∙ ap (λ (l : List ItemMeaning). cut-from l (f .seen) p rest) (drop-all i is (omega arith))) ∙ c) in
+      gives-inj (sym (f .same ∙ ap (λ (l : List ItemMeaning). cut-from l (f .seen) p rest) (drop-all i is (omega arith))) ∙ s .accepted) in
       sym (take-append-drop i t)
       ∙ ap₂ (λ (a b : List Row). a ++ b)
       (f .done ∙ ap₂ (λ (x : List ItemMeaning) (y : List (List ℕ)). rows-of x p₀ y) (take-all i is (omega arith)) (ap (λ (c : Cut). c .pieces) l))
       (f .beyond ∙ ap (λ (k : ℕ). drop k t₀) e)
+      ∙ ap (λ (a : Answer Cut). filled is p₀ a t₀) (sym (s .accepted))
 
   module _ (os : List ℕ) (s : Surveyed is p₀ o os) (i : ℕ) (t : List Row) (p : ℕ) (rest : List ℕ) (f : Filling is p₀ o t₀ i t p rest)
       (x : Item) (n : ℕ) (e : Some (meant x) ≡ nth is i) (z : n ≡ size-by-octets (meant x) (take (i - 0) os)) where

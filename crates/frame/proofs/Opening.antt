@@ -1,8 +1,8 @@
 -- The questions of a read one after another, by what the code finds.
 use mathlib.Core.Path.{_≡_, refl, sym, ap, subst, _∙_}
-use mathlib.Core.List.{List, [], _++_, map}
+use mathlib.Core.List.{List, [], map}
 use Prim.Native.Nat.{ℕ, _+_, _/_, _≤_, _<_}
-use lib.ListN.{length, getD, drop}
+use lib.ListN.{length, getD}
 use Rattle.std.proofs.shelf.Tests.{eq-eqb, ne-eqb, le-leb, lt-leb}
 use Rattle.base.specs.declared.refusal.Refusal.{Refusal}
 use Rattle.base.specs.Answers.{Answer, refused, gives, bind, no-frame, no-call}
@@ -12,9 +12,9 @@ use Rattle.layout.specs.Questions.{lawful}
 use Rattle.packet.specs.Containers.{Located, container}
 use Rattle.frame.specs.declared.row.Row.{Row}
 use Rattle.frame.specs.Pieces.{Cut, cut-from, cut-frame}
-use Rattle.frame.specs.Rows.{rows-of}
+use Rattle.frame.specs.Rows.{filled}
 use Rattle.frame.specs.Surveys.{last-octet, Gathered, gathered, surveyed}
-use Rattle.frame.specs.Reading.{Opened, opened-packet, opened-for-read, told, read-told, shown-rows, table-after}
+use Rattle.frame.specs.Reading.{Opened, opened-packet, opened-for-read, read-told, table-after}
 use Rattle.frame.specs.Views.{FoundSurveyed, gathered-packet}
 
 module _ (m : Meaning) (p : ℕ) (o : List ℕ) (v t : ℕ) (e : v ≡ getD o 0 0) (f : t ≡ m .pdu-type) where
@@ -63,11 +63,10 @@ module _ (m : Meaning) (b : List ℕ) (n : ℕ) where
       let l = bound (container b n) _ w e in
       let c = bound (cut-frame m (l .0 .place + 1) (l .0 .frame)) _ w (l .2) in
       let q : _≡_ {A = Opened} (record { located = l .0; parts = c .0 }) w = gives-inj (c .2) in
-      let k : cut-from (m .items) [] (l .0 .place + 1) (l .0 .frame) ≡ gives (c .0) = asked-yes _ _ _ _ (c .1) .1 in
-      (
+      let k : cut-from (m .items) [] (l .0 .place + 1) (l .0 .frame) ≡ gives (c .0) = asked-yes _ _ _ _ (c .1) .1 in (
         l .1 ∙ ap (λ (x : Opened). gives (x .located)) q,
         ap (λ (x : Opened). cut-from (m .items) [] (x .located .place + 1) (x .located .frame)) (sym q)
-        ∙ k ∙ ap (λ (x : Opened). gives (x .parts)) q,
+            ∙ k ∙ ap (λ (x : Opened). gives (x .parts)) q,
       )
 
 -- questions 1 to 4 before them
@@ -100,24 +99,15 @@ module _ (o : ℕ) (m : Meaning) (k : ℕ) (b : List ℕ) (n : ℕ) where
           let p = opened-parts m b n (c .0) (c .1) in
           (c .0, read-on ∙ c .1, c .2, p .0, p .1)
 
--- what read answers and leaves of the table
-pub told-no : (m : Meaning) (a : Answer Opened) (r : Refusal) (t : List Row) → a ≡ refused r → (read-told a ≡ refused r) × (t ≡ table-after m a t)
-unfolding read-told
-told-no m a r t e = (bind-refused _ _ r e, ap (λ (x : Answer Opened). table-after m x t) (sym e))
-
-pub told-yes : (m : Meaning) (a : Answer Opened) (w : Opened) (t : List Row) → a ≡ gives w
-    → (gives (told w) ≡ read-told a) × (shown-rows m w ++ drop (length (m .items)) t ≡ table-after m a t)
-unfolding read-told
-told-yes m a w t e = (sym (bind-gives _ _ w e), ap (λ (x : Answer Opened). table-after m x t) (sym e))
-
--- what an accepted read has found, answers and leaves of the table
+-- what an accepted opening has found
 pub record Accepted (o : ℕ) (m : Meaning) (k : ℕ) (b : List ℕ) (n : ℕ) (g : FoundSurveyed) : Type 0 where
   pub parts : Cut
   pub found : container b n ≡ gives (g .located)
   pub cut : cut-from (m .items) [] (g .located .place + 1) (g .located .frame) ≡ gives parts
   pub octets : g .found .octets ≡ map last-octet (parts .pieces)
-  pub answer : gives (record { present = g .found .present; tail = g .found .tail; inner = g .located .inner }) ≡ read-told (opened-for-read o m k b n)
-  pub table : (t : List Row) → rows-of (m .items) (g .located .place + 1) (parts .pieces) ++ drop (length (m .items)) t ≡ table-after m (opened-for-read o m k b n) t
+  pub told : gives (record { present = g .found .present; tail = g .found .tail; inner = g .located .inner }) ≡ read-told (opened-for-read o m k b n)
+  pub table : (t : List Row) → filled (m .items) (g .located .place + 1) (cut-from (m .items) [] (g .located .place + 1) (g .located .frame)) t
+      ≡ table-after m (opened-for-read o m k b n) t
 
 pub read-accepted : (o : ℕ) (m : Meaning) (k : ℕ) (b : List ℕ) (n : ℕ) → gives tt ≡ lawful o m → length (m .items) ≤ k
     → (g : FoundSurveyed) → gives g ≡ gathered-packet (opened-packet m b n) → Accepted o m k b n g
@@ -129,6 +119,6 @@ read-accepted o m k b n e h g f =
       found = r .3;
       cut = r .4;
       octets = refl;
-      answer = told-yes m _ w [] (r .1) .0;
-      table = λ t. told-yes m _ w t (r .1) .1;
+      told = sym (ap read-told (r .1));
+      table = λ t. ap (λ (a : Answer Cut). filled (m .items) (w .located .place + 1) a t) (r .4) ∙ sym (ap (λ (a : Answer Opened). table-after m a t) (r .1));
     })

@@ -40,8 +40,8 @@ present-there ungoverned cs e = tt
 present-there (governed-by g b) cs e =
     let one : bit b (big-endian (piece cs g)) ≡ 1 = eqb-true _ _ e in (
       λ (none : piece cs g ≡ []).
-      let zero : bit b (big-endian (piece cs g)) ≡ 0 = ap (λ (c : List ℕ). bit b (big-endian c)) none ∙ ap (λ (n : ℕ). n % 2) (zero-div (2 ^ b)) in
-      omega (arith, one, zero),
+          let zero : bit b (big-endian (piece cs g)) ≡ 0 = ap (λ (c : List ℕ). bit b (big-endian c)) none ∙ ap (λ (n : ℕ). n % 2) (zero-div (2 ^ b)) in
+          omega (arith, one, zero),
       one,
     )
 
@@ -55,7 +55,7 @@ module _ (is : List ItemMeaning) (o : List ℕ) (w : Cut) where
           c .there j l (present-there (item-at is j .governor) (w .pieces) e) ∙ sym (ap (λ (t : Bool). cond t (item-at is j .len) 0) e)
       by false e =
           let gone : piece (w .pieces) j ≡ [] =
-              c .not-there j l (λ h. let z : _≡_ {A = ℕ} 0 1 = cc (e, there-present (item-at is j .governor) (w .pieces) h) in omega arith) in
+          c .not-there j l (λ h. let z : _≡_ {A = ℕ} 0 1 = cc (e, there-present (item-at is j .governor) (w .pieces) h) in omega arith) in
           ap length gone ∙ sym (ap (λ (t : Bool). cond t (item-at is j .len) 0) e)
 
   cut-by-size : length (w .pieces) ≡ length is → joined (w .pieces) ++ w .tail ≡ o

@@ -40,8 +40,9 @@ abbrev pub shown-rows : Meaning → Opened → List Row
 shown-rows m w = rows-of (m .items) (w .located .place + 1) (w .parts .pieces)
 
 -- what read answers
-unfoldable pub read-told : Answer Opened → Answer Told
-read-told a = bind a (λ w. gives (told w))
+abbrev pub read-told : Answer Opened → Answer Told
+read-told (refused r) = refused r
+read-told (gives w) = gives (told w)
 
 -- The table after read: a row for each item, and the rows past them as before. A refusal changes no row.
 abbrev pub table-after : Meaning → Answer Opened → List Row → List Row

@@ -1,11 +1,10 @@
 //! The second pass over a frame, once nothing can be refused any more: a row for each item.
 ghost use mathlib.Core.Path.{_≡_};
-ghost use mathlib.Core.List.{[], _++_};
+ghost use mathlib.Core.List.{[]};
 ghost use Prim.Native.Nat.{ℕ, _+_, _≤_, _<_, _^_};
-ghost use lib.ListN.{length, drop};
-ghost use Rattle.base.specs.Answers.{gives};
-ghost use Rattle.frame.specs.Pieces.{Cut, cut-from};
-ghost use Rattle.frame.specs.Rows.{rows-of};
+ghost use lib.ListN.{length};
+ghost use Rattle.frame.specs.Pieces.{cut-from};
+ghost use Rattle.frame.specs.Rows.{filled};
 ghost use Rattle.frame.specs.Surveys.{Surveyed};
 use crate::item::make_row;
 use crate::item::size_in;
@@ -25,7 +24,7 @@ pub(crate) fn fill_rows<L: Layout>(
     requires enough { ⌜ length (meaning (now layout) .items) ≤ length (now octets) ⌝ }
     requires fits { ⌜ length (meaning (now layout) .items) ≤ length (now rows) ⌝ }
     requires room { ⌜ place + length (now frame) < 2 ^ 64 ⌝ }
-    ensures { λ _. ⌜ ((w : Cut) → cut-from (meaning (now (layout .entry)) .items) [] place (now (frame .entry)) ≡ gives w → now (rows .exit) ≡ rows-of (meaning (now (layout .entry)) .items) place (w .pieces) ++ drop (length (meaning (now (layout .entry)) .items)) (now (rows .entry))) ⌝ }
+    ensures { λ _. ⌜ now (rows .exit) ≡ filled (meaning (now (layout .entry)) .items) place (cut-from (meaning (now (layout .entry)) .items) [] place (now (frame .entry))) (now (rows .entry)) ⌝ }
 {
     let mut at = place;
     let mut rest = frame;

@@ -2,6 +2,7 @@
 pub mod fault;
 mod fill;
 mod item;
+mod open;
 pub mod read;
 pub mod row;
 mod survey;

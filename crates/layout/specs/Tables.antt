@@ -1,15 +1,19 @@
 -- The published layouts, item by item.
 use mathlib.Core.List.{List, [], _∷_, _++_, map}
-use mathlib.Core.Bool.{cond}
-use Prim.Native.Nat.{ℕ, _-_, _^_}
+use mathlib.Core.Path.{_≡_}
+use mathlib.Core.Bool.{true, cond}
+use Prim.Native.Nat.{ℕ, _-_, _^_, _<_}
 use lib.Dec.{eqb}
+use lib.ListN.{length}
 use lib.Chars.{codes}
 use Rattle.std.specs.declared.option.Option.{Option}
 use Rattle.std.specs.declared.option.Option.the-variants.{Some, None}
+use Rattle.base.specs.Answers.{gives}
 use Rattle.layout.specs.declared.table.Published.{Published}
 use Rattle.layout.specs.declared.table.Published.the-variants.{Dl16, Ul161, Ul163, Ul19}
 use Rattle.layout.specs.declared.table.TableRow.{TableRow}
-use Rattle.layout.specs.Items.{ItemKind, bits-octet, a-number, ItemGovernor, ungoverned, governed-by, ItemMeaning, Meaning}
+use Rattle.layout.specs.Items.{ItemKind, bits-octet, a-number, ItemGovernor, ungoverned, governed-by, ItemMeaning, Meaning, may-exist, item-at}
+use Rattle.layout.specs.Questions.{lawful}
 use Rattle.layout.specs.Views.{meant}
 
 -- a bits octet with its named bits, a number with the largest limit for its length, and one with a limit of its own
@@ -89,3 +93,10 @@ row-meaning r = record { name = r .name; item = meant (r .item) }
 -- the bench's numbers for the published layouts
 abbrev pub published-number : ℕ → Option Published
 published-number n = cond (eqb n 1) (Some Dl16) (cond (eqb n 2) (Some Ul161) (cond (eqb n 3) (Some Ul163) (cond (eqb n 4) (Some Ul19) None)))
+
+-- the rules that every published table keeps: each item may exist, and the layout passes questions 1 to 3
+abbrev pub Tables-stand : Type 0
+Tables-stand =
+    (p : Published)
+    → ((j : ℕ) → j < length (published-items p) → may-exist (item-at (published-items p) j) ≡ true)
+    × ((o : ℕ) → lawful o (published-meaning p) ≡ gives tt)

@@ -19,6 +19,7 @@ pub struct Item {
     pub limit: u64,
     ghost some: { 1 ≤ length },
     ghost most: { length ≤ 8 },
+    ghost octet: { mask < 256 },
     ghost bits: { kind ≡ Bits → (length ≡ 1) × (limit ≡ 0) },
     ghost number: { kind ≡ Number → (mask ≡ 0) × (limit < 256 ^ length) },
 }

@@ -9,6 +9,7 @@ ghost use Rattle.layout.specs.Faults.{layout-refusal};
 ghost use Rattle.layout.specs.Items.{item-at};
 ghost use Rattle.layout.specs.Masks.{governor-fits-masks};
 ghost use Rattle.layout.specs.Questions.{lawful as passes, may-lead as leads, first-misfit as misfit};
+ghost use Rattle.layout.specs.Tables.{Tables-stand};
 ghost use Rattle.layout.specs.Views.{meant, governor-meaning};
 use crate::fault::LayoutFault;
 use crate::item::Item;
@@ -81,9 +82,10 @@ fn may_count(count: usize) -> bool
     1 <= count && count <= MOST_ITEMS
 }
 
-/// Puts questions 1 to 3 to a layout.
+/// Puts questions 1 to 3 to a layout. The published ones pass them.
 pub fn lawful<L: Layout>(layout: &L) -> Result<(), LayoutFault>
-    ensures { λ r. ⌜ answer-of (λ u. u) layout-refusal r ≡ passes (L·Layout .source) (meaning (now (layout .entry))) ⌝ }
+    ensures answer { λ r. ⌜ answer-of (λ u. u) layout-refusal r ≡ passes (L·Layout .source) (meaning (now (layout .entry))) ⌝ }
+    ensures published { λ _. ⌜ Tables-stand ⌝ }
 {
     let origin = layout.origin_number();
     let count = layout.count();

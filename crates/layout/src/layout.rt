@@ -1,11 +1,10 @@
 //! The interface behind which every layout stands.
 ghost use mathlib.Core.Path.{_≡_};
-ghost use mathlib.Core.Bool.{true};
-ghost use Prim.Native.Nat.{ℕ, _≤_, _<_};
+ghost use Prim.Native.Nat.{ℕ};
 ghost use lib.ListN.{length};
 ghost use Rattle.std.specs.Finite.{nth};
 ghost use Rattle.std.specs.Options.{mapped};
-ghost use Rattle.layout.specs.Items.{Meaning, item-at, may-exist};
+ghost use Rattle.layout.specs.Items.{Meaning};
 ghost use Rattle.layout.specs.Views.{meant};
 use crate::item::Item;
 
@@ -16,12 +15,6 @@ pub trait Layout {
 
     /// The origin number, as clauses name it.
     ghost source: { ℕ };
-
-    /// Every item of the meaning is one that may exist.
-    law made: { (x : Self) (j : ℕ) → j < length (meaning x .items) → may-exist (item-at (meaning x .items) j) ≡ true };
-
-    /// A PDU type is a half octet.
-    law typed: { (x : Self) → meaning x .pdu-type ≤ 15 };
 
     /// The origin: which kind of layout this is. 1 is published, 2 a file, 3 an extension.
     const ORIGIN: u8;

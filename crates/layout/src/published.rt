@@ -1,8 +1,5 @@
 //! The published kind of layout.
 ghost use mathlib.Core.Path.{_≡_};
-ghost use Prim.Native.Nat.{ℕ};
-ghost use Rattle.base.specs.Answers.{gives};
-ghost use Rattle.layout.specs.Questions.{lawful as passes};
 ghost use Rattle.layout.specs.Tables.{published-meaning, published-names, published-number};
 use crate::item::Item;
 use crate::layout::Layout;
@@ -54,10 +51,9 @@ pub impl NamedLayout for Published as PublishedNames {
 }
 
 impl Published {
-    /// The published layout of a number from 1 to 4, as the bench numbers them; each passes questions 1 to 3.
+    /// The published layout of a number from 1 to 4, as the bench numbers them.
     pub fn numbered(number: u8) -> Option<Published>
-        ensures value { λ r. ⌜ r ≡ published-number number ⌝ }
-        ensures lawful { λ _. ⌜ ((p : Published) (o : ℕ) → passes o (published-meaning p) ≡ gives tt) ⌝ }
+        ensures { λ r. ⌜ r ≡ published-number number ⌝ }
     {
         match number {
             1 => Some(Published::Dl16),

@@ -16,10 +16,9 @@ pub returns : need.returns
 returns c =
     let xs = c .args .input .now in
     let i = c .line-end-end .result in
-    let h : i < length xs = omega arith in
-    (
+    let h : i < length xs = omega arith in (
       rw (sub-zero, take-rest) (apart xs i 10 h (c .line-end-end .ensures .found h)),
       rw sub-zero (λ k l e.
-      let m : k < i = omega (arith, length-take i xs) in
-      c .line-end-end .ensures .before k m (sym (getD-take i xs k 0 m) ∙ e)),
+          let m : k < i = omega (arith, length-take i xs) in
+          c .line-end-end .ensures .before k m (sym (getD-take i xs k 0 m) ∙ e)),
     )

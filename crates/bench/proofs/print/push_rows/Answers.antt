@@ -13,7 +13,7 @@ loop-i-again g c =
     let rs = take n (c .args .rows .now) in
     let h : c .loop-i .i < length rs = omega (arith, length-take n (c .args .rows .now)) in
     rows-more (g .N·NamedLayout .names (c .args .layout .now)) rs (c .loop-i .i) _ _ (c .loop-i .inv) h _ _ _
-    (c .name .ensures) (sym (getD-take n (c .args .rows .now) (c .loop-i .i) absent (omega arith))) (c .in-Continue-push-row .ensures tt)
+    (c .name .ensures .value) (sym (getD-take n (c .args .rows .now) (c .loop-i .i) absent (omega arith))) (c .in-Continue-push-row .ensures tt)
 
 pub returns : need.returns
 returns g c =

@@ -37,4 +37,4 @@ loop-i-again g c =
     _ (c .number-value .ensures .exact) (c .size-in-size .ensures .few) (omega arith) _ (c .make-row .ensures)
 
 pub returns : need.returns
-returns g c = filled-all _ _ _ _ _ _ _ _ (c .loop-i .inv) (omega arith)
+returns g c = filled-all _ _ _ _ _ (c .pre .surveyed) _ _ _ _ (c .loop-i .inv) (omega arith)

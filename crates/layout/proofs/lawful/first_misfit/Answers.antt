@@ -1,6 +1,7 @@
 use mathlib.Core.Path.{_≡_, refl, sym, _∙_}
 use native.Mathlib.Omega.{arith}
 use Rattle.layout.proofs.Nths.{le-from-nth}
+use Rattle.layout.proofs.Made.{item-may-exist}
 use Rattle.layout.proofs.Misfits.{fitted-none, misfit-here, fitted-more, fitted-all}
 use Rattle.layout.proofs.lawful.first_misfit.Needs as need
 
@@ -14,11 +15,11 @@ unreachable-requires g c κs =
 
 pub returns-then-not-governor-fits : need.returns-then-not-governor-fits
 returns-then-not-governor-fits g c =
-    misfit-here _ _ _ _ (g .L·Layout·met .made (c .args .layout .now)) (c .loop-i .inv) (c .in-Some .ensures tt) _ (c .if-not-governor-fits .ensures tt) refl
+    misfit-here _ _ _ _ (c .loop-i .inv) (c .in-Some .ensures tt) _ (c .if-not-governor-fits .ensures tt) refl
 
 pub loop-i-again : need.loop-i-again
 loop-i-again g c =
-    fitted-more _ _ _ _ (g .L·Layout·met .made (c .args .layout .now)) (c .loop-i .inv) (c .in-Some .ensures tt) _ (c .if-not-governor-fits .ensures tt) refl (omega arith)
+    fitted-more _ _ _ _ (c .loop-i .inv) (c .in-Some .ensures tt) _ (c .if-not-governor-fits .ensures tt) refl (omega arith) (item-may-exist (c .in-Some .item))
 
 pub returns : need.returns
 returns g c =

@@ -10,7 +10,7 @@ use Rattle.frame.specs.declared.fault.FrameFault.the-variants.{Packet}
 use Rattle.frame.specs.Surveys.{gathered-of}
 use Rattle.frame.specs.Views.{opened-of}
 use Rattle.frame.proofs.Opening.{open-no-packet, open-no-frame, open-yes}
-use Rattle.frame.proofs.read.open_packet.Needs as need
+use Rattle.frame.proofs.open.open_packet.Needs as need
 
 pub returns-in-Break-found : need.returns-in-Break-found
 returns-in-Break-found g c =
