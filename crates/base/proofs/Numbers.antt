@@ -1,12 +1,12 @@
 -- Numbers in octets, octet by octet.
-use mathlib.Core.Path.{_≡_, refl, sym, ap, _∙_}
+use mathlib.Core.Path.{_≡_, ap, _∙_}
 use mathlib.Core.List.{List, [], _∷_, _++_}
-use Prim.Native.Nat.{ℕ, zero, suc, _+_, _*_, _/_, _%_, _^_, _≤_, _<_}
-use native.Mathlib.Nat.{mod-eq-of-lt, mul-le-mul-right, pow-le-pow-right}
+use Prim.Native.Nat.{ℕ, suc, _+_, _*_, _^_, _≤_, _<_}
+use native.Mathlib.Nat.{mul-le-mul-right, pow-le-pow-right}
 use native.Mathlib.Omega.{arith}
 use lib.ListN.{length, getD, take, length-append}
 use Rattle.std.proofs.shelf.Lists.{take-more}
-use Rattle.base.specs.Octets.{Octets, big-endian}
+use Rattle.base.specs.Octets.{big-endian}
 
 pub pow-more : (n : ℕ) → 256 ^ (n + 1) ≡ 256 * 256 ^ n
 pow-more n = ap (λ (m : ℕ). 256 ^ m) (plus n) ∙ omega arith

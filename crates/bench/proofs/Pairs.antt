@@ -1,14 +1,14 @@
 -- Hexadecimal pairs: the tests of the code tell them, and each pair writes one octet.
 use mathlib.Core.Path.{_≡_, refl, sym, ap, ap₂, _∙_}
 use mathlib.Core.Logic.{⊎-elim}
-use mathlib.Core.List.{List, [], _∷_, _++_}
-use mathlib.Core.Bool.{Bool, true, false, _&&_, _||_, cond}
-use Prim.Native.Nat.{ℕ, zero, suc, _+_, _-_, _*_, _/_, _%_, _≤_, _<_}
+use mathlib.Core.List.{List, [], _∷_}
+use mathlib.Core.Bool.{Bool, true, _&&_, cond}
+use Prim.Native.Nat.{ℕ, _+_, _-_, _*_, _/_, _%_, _≤_, _<_}
 use native.Mathlib.Omega.{arith}
-use lib.Dec.{leb, ltb, eqb}
+use lib.Dec.{leb}
 use lib.ListN.{length, getD, drop}
 use Rattle.std.proofs.shelf.Lists.{at-drop-more}
-use Rattle.std.proofs.shelf.Tests.{ltb-true, ltb-false, leb-true, eqb-true, le-leb, lt-ltb, le-ltb, eq-eqb, and-parts, and-from, or-cases, or-left, or-right, cases-lt}
+use Rattle.std.proofs.shelf.Tests.{leb-true, le-leb, lt-ltb, le-ltb, eq-eqb, and-parts, and-from, or-cases, or-left, or-right, cases-lt}
 use Rattle.base.specs.Octets.{Octets}
 use Rattle.bench.specs.Lines.{hex-digit, hex-pairs}
 use Rattle.bench.specs.Tests.{is-hex-digit, are-hex-digits, are-hex-pairs}

@@ -1,18 +1,17 @@
 -- Lines by their octets.
-use mathlib.Core.Path.{_≡_, refl, sym, ap, ap₂, _∙_}
-use mathlib.Core.List.{List, [], _∷_, _++_}
-use mathlib.Core.Bool.{true, false, _&&_}
-use Prim.Native.Nat.{ℕ, suc, _+_, _-_, _*_, _%_, _≤_, _<_}
+use mathlib.Core.Path.{_≡_, sym, ap, ap₂, _∙_}
+use mathlib.Core.List.{List, [], _∷_}
+use mathlib.Core.Bool.{true, false}
+use Prim.Native.Nat.{ℕ, suc, _-_, _%_, _≤_}
 use native.Mathlib.Omega.{arith}
 use lib.Dec.{leb, ltb, eqb}
 use lib.ListN.{length, getD, take, drop}
 use lib.Seq.{take-all}
 use Rattle.std.proofs.shelf.Tests.{ltb-true, leb-true, eqb-true, and-parts}
 use Rattle.layout.specs.declared.table.Published.{Published}
-use Rattle.layout.specs.declared.table.Published.the-variants.{Dl16, Ul161, Ul163, Ul19}
 use Rattle.bench.specs.Lines.{hex-pairs, layout-text, IsPacketLine, IsReadLine, IsNoCommand}
 use Rattle.bench.specs.Tests.{are-hex-digits, are-hex-pairs}
-use Rattle.bench.proofs.Pairs.{Written, written, are-pairs}
+use Rattle.bench.proofs.Pairs.{written, are-pairs}
 
 pub one-octet : (xs : List ℕ) (c : ℕ) → length xs ≡ 1 → getD xs 0 0 ≡ c → xs ≡ c ∷ []
 one-octet [] c l e = absurd (let b : ⊥ = omega arith in b)

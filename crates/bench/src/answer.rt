@@ -1,8 +1,6 @@
 //! The bench's answer to a line.
 ghost use mathlib.Core.Path.{_≡_};
-ghost use mathlib.Core.List.{List, _++_};
-ghost use Prim.Native.Nat.{ℕ, _≤_};
-ghost use lib.ListN.{length, drop};
+ghost use lib.ListN.{length};
 ghost use Rattle.bench.specs.Replies.{Answered, reply-to-read, opened-by};
 ghost use Rattle.frame.specs.Reading.{read-told, table-after};
 ghost use Rattle.layout.specs.Tables.{published-meaning};

@@ -2,29 +2,29 @@
 use mathlib.Core.Path.{_≡_, refl, sym, ap, ap₂, _∙_, subst}
 use mathlib.Core.List.{List, [], _∷_, _++_, map}
 use mathlib.Core.Bool.{Bool, true, false, cond}
-use Prim.Native.Nat.{ℕ, zero, suc, _+_, _-_, _%_, _≤_, _<_}
-use native.Mathlib.Nat.{add-zero, sub-zero}
+use Prim.Native.Nat.{ℕ, suc, _+_, _-_, _%_, _≤_, _<_}
+use native.Mathlib.Nat.{sub-zero}
 use native.Mathlib.Numerals.{add-one}
 use native.Mathlib.Omega.{arith}
 use mir.Val.{boolByte}
 use lib.Dec.{leb, ltb}
-use lib.ListN.{length, getD, take, drop, set, length-append, length-map, length-drop, length-set}
-use lib.Seq.{length-take-le, take-all}
+use lib.ListN.{length, take, drop, set, length-drop, length-set}
+use lib.Seq.{length-take-le}
 use Rattle.std.specs.declared.option.Option.the-variants.{Some}
 use Rattle.std.specs.Finite.{nth}
 use Rattle.std.proofs.shelf.Lists.{take-more-set, map-push, drop-all, take-rest}
 use Rattle.std.proofs.shelf.Tests.{le-leb, lt-leb}
-use Rattle.base.specs.Answers.{Answer, refused, gives, ask, bind, no-frame}
+use Rattle.base.specs.Answers.{refused, gives, ask, no-frame}
 use Rattle.base.specs.Octets.{big-endian}
 use Rattle.base.proofs.Asking.{ask-yes, ask-no, bind-gives, bind-refused}
 use Rattle.layout.specs.declared.item.Item.{Item}
 use Rattle.layout.specs.Items.{ItemMeaning}
 use Rattle.layout.specs.Views.{meant}
-use Rattle.layout.proofs.Nths.{drop-at-nth, lt-from-nth}
-use Rattle.frame.specs.Pieces.{joined, size-of, within, Cut, cut-from}
+use Rattle.layout.proofs.Nths.{drop-at-nth}
+use Rattle.frame.specs.Pieces.{size-of, within, cut-from}
 use Rattle.frame.specs.Rows.{how-many}
-use Rattle.frame.specs.Surveys.{last-octet, size-by-octets, within-number, gathered, Gathered, surveyed}
-use Rattle.frame.proofs.Items.{present-is, within-is, how-many-push, joined-push}
+use Rattle.frame.specs.Surveys.{last-octet, size-by-octets, within-number, surveyed}
+use Rattle.frame.proofs.Items.{present-is, within-is, how-many-push}
 
 -- i of the items are done; seen has their pieces
 pub record Along (is : List ItemMeaning) (p₀ : ℕ) (o : List ℕ) (i : ℕ) (os : List ℕ) (many p : ℕ) (rest : List ℕ) : Type 0 where

@@ -1,25 +1,25 @@
 -- The rules on one item, by the numbers that the code has in place of octets.
-use mathlib.Core.Path.{_≡_, refl, sym, ap, ap₂, _∙_}
+use mathlib.Core.Path.{_≡_, refl, sym, ap, _∙_}
 use mathlib.Core.List.{List, [], _∷_, _++_, map}
-use mathlib.Core.Bool.{Bool, true, false, cond}
-use Prim.Native.Nat.{ℕ, zero, suc, _+_, _/_, _%_, _^_, _≤_, _<_}
+use mathlib.Core.Bool.{Bool, false}
+use Prim.Native.Nat.{ℕ, zero, suc, _+_, _%_, _^_, _≤_}
 use native.Mathlib.Nat.{zero-div, add-zero}
 use native.Mathlib.Omega.{arith}
 use mir.Val.{boolByte}
 use lib.Dec.{ltb, eqb}
-use lib.ListN.{length, getD, length-append, length-map}
+use lib.ListN.{length, getD, length-append}
 use Rattle.std.specs.declared.option.Option.{Option}
 use Rattle.std.specs.declared.option.Option.the-variants.{Some, None}
 use Rattle.std.proofs.shelf.Lists.{getD-past}
 use Rattle.std.proofs.shelf.Tests.{lt-ltb}
 use Rattle.base.specs.Octets.{bit, big-endian}
 use Rattle.layout.specs.declared.kind.Governor.{Governor}
-use Rattle.layout.specs.Items.{ItemKind, bits-octet, a-number, ItemGovernor, ungoverned, governed-by, ItemMeaning}
+use Rattle.layout.specs.Items.{ItemKind, bits-octet, a-number, governed-by, ItemMeaning}
 use Rattle.layout.specs.Views.{governor-meaning}
 use Rattle.frame.specs.declared.row.Row.{Row}
-use Rattle.frame.specs.Pieces.{joined, piece, present-by, size-of, within-as}
+use Rattle.frame.specs.Pieces.{joined, piece, present-by, within-as}
 use Rattle.frame.specs.Rows.{row-of, rows-of, how-many}
-use Rattle.frame.specs.Surveys.{last-octet, present-by-octets, size-by-octets, within-number, row-number}
+use Rattle.frame.specs.Surveys.{last-octet, present-by-octets, within-number, row-number}
 use Rattle.frame.proofs.Octets.{bit-last-octet}
 
 -- an octet past the end counts as 0

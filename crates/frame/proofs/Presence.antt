@@ -1,24 +1,22 @@
 -- An accepted reading is the one and only cut by the rule of presence.
 use mathlib.Core.Path.{_≡_, refl, sym, _∙_, ap, subst}
-use mathlib.Core.Logic.{⊎-elim}
 use mathlib.Core.List.{List, [], _∷_, _++_, map}
 use mathlib.Core.Bool.{Bool, true, false, cond}
 use Prim.Native.Nat.{ℕ, _+_, _%_, _^_, _<_}
 use native.Mathlib.Nat.{zero-add, zero-div}
 use native.Mathlib.Omega.{arith}
-use lib.Dec.{eqb}
 use lib.ListN.{length, length-map}
 use Rattle.std.proofs.shelf.Lists.{getD-map}
-use Rattle.std.proofs.shelf.Tests.{eqb-true, eqb-false, eq-eqb, cases-bool}
+use Rattle.std.proofs.shelf.Tests.{eqb-true, eq-eqb}
 use Rattle.base.specs.Answers.{gives}
 use Rattle.base.specs.Octets.{bit, big-endian}
 use Rattle.base.proofs.Asking.{gives-inj}
 use Rattle.layout.specs.Items.{bits-octet, ItemGovernor, ungoverned, governed-by, ItemMeaning, Meaning, item-at, no-item}
 use Rattle.layout.specs.Questions.{lawful}
 use Rattle.layout.proofs.Hooks.{Hooked, hooks}
-use Rattle.frame.specs.Pieces.{joined, piece, present-by, size-of, within, Cut, cut-from}
+use Rattle.frame.specs.Pieces.{joined, piece, present-by, size-of, Cut, cut-from}
 use Rattle.frame.specs.Laws.{IsThere, IsCut, InLimits, OnlyCut, Reading-is-only-cut}
-use Rattle.frame.proofs.Cutting.{Fit, Pieces, Before, Earlier, read-pieces, pieces-read}
+use Rattle.frame.proofs.Cutting.{Fit, Before, Earlier, read-pieces, pieces-read}
 
 -- question 3: a governor stands before its item
 before : (is : List ItemMeaning) (n : ℕ) (g : ItemGovernor) → Hooked is n g → Before n g

@@ -1,6 +1,6 @@
 -- What a first pass over the items of a frame gathers, and the rules on items by the numbers that the code holds.
 use mathlib.Core.Path.{_≡_}
-use mathlib.Core.List.{List, [], _∷_, map}
+use mathlib.Core.List.{List, [], map}
 use mathlib.Core.Bool.{Bool, true, cond}
 use Prim.Native.Nat.{ℕ, zero, suc, _%_}
 use lib.Dec.{leb, eqb}

@@ -1,7 +1,7 @@
 //! The second pass over a frame, once nothing can be refused any more: a row for each item.
 ghost use mathlib.Core.Path.{_≡_};
 ghost use mathlib.Core.List.{[]};
-ghost use Prim.Native.Nat.{ℕ, _+_, _≤_, _<_, _^_};
+ghost use Prim.Native.Nat.{_+_, _≤_, _<_, _^_};
 ghost use lib.ListN.{length};
 ghost use Rattle.frame.specs.Pieces.{cut-from};
 ghost use Rattle.frame.specs.Rows.{filled};

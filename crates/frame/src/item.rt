@@ -1,6 +1,6 @@
 //! One item of a frame: its presence, its size, its limit, its row.
 ghost use mathlib.Core.Path.{_≡_};
-ghost use Prim.Native.Nat.{ℕ, _≤_};
+ghost use Prim.Native.Nat.{_≤_};
 ghost use Rattle.layout.specs.Views.{meant, kind-meaning, governor-meaning};
 ghost use Rattle.frame.specs.Surveys.{present-by-octets, size-by-octets, within-number, row-number};
 use crate::row::Row;

@@ -1,6 +1,6 @@
 //! A packet opened by a layout: questions 1 to 13. Nothing is written yet.
 ghost use mathlib.Core.Path.{_≡_};
-ghost use Prim.Native.Nat.{ℕ, _≤_};
+ghost use Prim.Native.Nat.{_≤_};
 ghost use lib.ListN.{length};
 ghost use Rattle.std.specs.Results.{Cases};
 ghost use Rattle.base.specs.Answers.{answer-of, refused};

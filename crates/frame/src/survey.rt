@@ -1,7 +1,7 @@
 //! The first pass over a frame: questions 11 to 13. Nothing is written yet.
 ghost use mathlib.Core.Path.{_≡_};
 ghost use mathlib.Core.List.{[]};
-ghost use Prim.Native.Nat.{ℕ, _+_, _≤_, _<_, _^_};
+ghost use Prim.Native.Nat.{_+_, _≤_, _<_, _^_};
 ghost use lib.ListN.{length, getD};
 ghost use Rattle.base.specs.Answers.{answer-of};
 ghost use Rattle.frame.specs.Faults.{frame-refusal};

@@ -3,7 +3,7 @@ use mathlib.Core.Path.{_≡_, refl, sym, ap, ap₂, _∙_, subst}
 use mathlib.Core.List.{List, [], _∷_, _++_, map}
 use mathlib.Core.Bool.{Bool, true, false, _&&_, not}
 use mathlib.Core.Logic.{⊎-elim}
-use Prim.Native.Nat.{ℕ, zero, suc, _+_, _-_, _/_, _%_, _^_, _≤_, _<_}
+use Prim.Native.Nat.{ℕ, suc, _+_, _-_, _%_, _^_, _≤_, _<_}
 use native.Mathlib.Nat.{zero-div, sub-zero, add-zero, zero-add}
 use native.Mathlib.Numerals.{add-one}
 use native.Mathlib.Omega.{arith}
@@ -14,7 +14,7 @@ use lib.Seq.{length-take-le, getD-take}
 use Rattle.std.specs.declared.option.Option.the-variants.{Some}
 use Rattle.std.specs.Finite.{nth}
 use Rattle.std.proofs.shelf.Lists.{drop-all, take-more-set, map-push, getD-map}
-use Rattle.std.proofs.shelf.Tests.{and-parts, eqb-true, cases-lt, lt-ltb, le-ltb}
+use Rattle.std.proofs.shelf.Tests.{and-parts, eqb-true, cases-lt, le-ltb}
 use Rattle.base.specs.Answers.{first-no}
 use Rattle.base.specs.Octets.{bit}
 use Rattle.layout.specs.Items.{ItemKind, bits-octet, a-number, ItemGovernor, ungoverned, governed-by, ItemMeaning, may-exist, may-exist-as, is-bits, item-at, no-item}

@@ -1,11 +1,11 @@
 -- Questions 1 to 3 one after another, by what the code finds, and what a yes to them says.
-use mathlib.Core.Path.{_≡_, refl, sym, ap, ap₂, _∙_}
+use mathlib.Core.Path.{_≡_, sym, ap, ap₂, _∙_}
 use mathlib.Core.Bool.{Bool, true, false, _&&_}
 use Prim.Native.Nat.{ℕ, _≤_}
-use lib.Dec.{leb, eqb}
+use lib.Dec.{leb}
 use lib.ListN.{length}
 use Rattle.std.proofs.shelf.Tests.{eq-eqb, ne-eqb, eqb-true, leb-true, and-parts}
-use Rattle.base.specs.Answers.{Answer, refused, gives, ask, no-layout}
+use Rattle.base.specs.Answers.{refused, gives, no-layout}
 use Rattle.base.proofs.Asking.{ask-yes, ask-no, asked-yes}
 use Rattle.layout.specs.Items.{Meaning, item-at}
 use Rattle.layout.specs.Questions.{may-lead, first-misfit, lawful}

@@ -12,7 +12,7 @@ use Rattle.base.specs.Answers.{gives}
 use Rattle.layout.specs.declared.table.Published.{Published}
 use Rattle.layout.specs.declared.table.Published.the-variants.{Dl16, Ul161, Ul163, Ul19}
 use Rattle.layout.specs.declared.table.TableRow.{TableRow}
-use Rattle.layout.specs.Items.{ItemKind, bits-octet, a-number, ItemGovernor, ungoverned, governed-by, ItemMeaning, Meaning, may-exist, item-at}
+use Rattle.layout.specs.Items.{bits-octet, a-number, ItemGovernor, ungoverned, governed-by, ItemMeaning, Meaning, may-exist, item-at}
 use Rattle.layout.specs.Questions.{lawful}
 use Rattle.layout.specs.Views.{meant}
 

@@ -1,5 +1,4 @@
 //! A kind of layout for trials: a PDU type and the caller's items, in their order.
-ghost use mathlib.Core.Path.{_≡_};
 ghost use mathlib.Core.List.{map};
 ghost use Prim.Native.Nat.{_≤_};
 ghost use denote.Ref.{now};

@@ -1,4 +1,4 @@
-use mathlib.Core.Path.{_≡_, sym, ap, _∙_}
+use mathlib.Core.Path.{sym, ap, _∙_}
 use Rattle.layout.specs.Views.{governor-meaning}
 use Rattle.frame.specs.Surveys.{present-by-octets}
 use Rattle.frame.proofs.Items.{absent-past}

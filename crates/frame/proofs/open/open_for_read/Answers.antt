@@ -1,10 +1,13 @@
 use mathlib.Core.Path.{sym}
 use borrow.Author.Needs.{needs}
 use native.Mathlib.Omega.{arith}
+use lib.ListN.{length}
 use Rattle.base.proofs.Asking.{cases-at-break}
 use Rattle.layout.proofs.Passing.{passes-from}
+use Rattle.packet.specs.Views.{located-of}
 use Rattle.packet.proofs.Containers.{container-inside}
 use Rattle.frame.specs.declared.fault.ReadFault.the-variants.{Frame}
+use Rattle.frame.specs.Views.{opened-of}
 use Rattle.frame.proofs.Opening.{read-no-layout, read-no-rows, read-no-packet, read-accepted}
 use Rattle.frame.proofs.Presence.{reading-is-only-cut}
 use Rattle.frame.proofs.Examples.{worked-frames}
@@ -50,8 +53,9 @@ pub returns : need.returns
 returns g c =
     let few = passes-from (g .L·Layout .source) (g .L·Layout .meaning (c .args .layout .now)) (sym (c .in-Continue-check-layout .ensures tt)) .few in
     let a = read-accepted (g .L·Layout .source) (g .L·Layout .meaning (c .args .layout .now)) (c .args .row-count) (c .args .buffer .now) (c .args .count)
-    (c .in-Continue-check-layout .ensures tt) (omega arith) _ (c .in-Continue-open .ensures tt) in
-    let i = container-inside (c .args .buffer .now) (c .args .count) _ (a .found) in
+    (c .in-Continue-check-layout .ensures tt) (omega arith) (opened-of (length (g .L·Layout .meaning (c .args .layout .now) .items)) (c .in-Continue-open .open))
+    (c .in-Continue-open .ensures tt) in
+    let i = container-inside (c .args .buffer .now) (c .args .count) (located-of (c .in-Continue-open .open .found)) (a .found) in
     record {
       opens = record {
         surveyed = record { parts = a .parts; accepted = a .cut; octets = a .octets };

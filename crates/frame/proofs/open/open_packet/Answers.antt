@@ -1,14 +1,11 @@
-use mathlib.Core.Path.{sym, _∙_}
+use mathlib.Core.Path.{sym}
 use borrow.Author.Needs.{needs}
 use native.Mathlib.Omega.{arith}
-use Rattle.packet.specs.Faults.{packet-refusal}
 use Rattle.packet.specs.Views.{located-of}
 use Rattle.packet.proofs.Containers.{container-inside}
 use Rattle.base.proofs.Asking.{answer-at-break}
 use Rattle.frame.specs.Faults.{frame-refusal}
 use Rattle.frame.specs.declared.fault.FrameFault.the-variants.{Packet}
-use Rattle.frame.specs.Surveys.{gathered-of}
-use Rattle.frame.specs.Views.{opened-of}
 use Rattle.frame.proofs.Opening.{open-no-packet, open-no-frame, open-yes}
 use Rattle.frame.proofs.open.open_packet.Needs as need
 

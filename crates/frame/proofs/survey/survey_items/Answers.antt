@@ -1,4 +1,4 @@
-use mathlib.Core.Path.{_≡_, refl, sym, _∙_}
+use mathlib.Core.Path.{refl}
 use native.Mathlib.Omega.{arith}
 use Rattle.layout.proofs.Nths.{le-from-nth}
 use Rattle.frame.proofs.Along.{along-none, along-short, along-over, along-more, along-all}

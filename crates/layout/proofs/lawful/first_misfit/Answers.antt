@@ -1,4 +1,4 @@
-use mathlib.Core.Path.{_≡_, refl, sym, _∙_}
+use mathlib.Core.Path.{_≡_, refl, _∙_}
 use native.Mathlib.Omega.{arith}
 use Rattle.layout.proofs.Nths.{le-from-nth}
 use Rattle.layout.proofs.Made.{item-may-exist}
