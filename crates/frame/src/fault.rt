@@ -36,24 +36,24 @@ pub enum ReadFault {
 pub impl From<LayoutFault> for FrameFault as FrameFromLayout {
     ghost converts = { λ f r. r ≡ of-layout f };
 
-    fn from(f: LayoutFault) -> FrameFault {
-        FrameFault::Layout(f)
+    fn from(fault: LayoutFault) -> FrameFault {
+        FrameFault::Layout(fault)
     }
 }
 
 pub impl From<PacketFault> for FrameFault as FrameFromPacket {
     ghost converts = { λ f r. r ≡ of-packet f };
 
-    fn from(f: PacketFault) -> FrameFault {
-        FrameFault::Packet(f)
+    fn from(fault: PacketFault) -> FrameFault {
+        FrameFault::Packet(fault)
     }
 }
 
 pub impl From<FrameFault> for ReadFault as ReadFromFrame {
     ghost converts = { λ f r. r ≡ of-frame f };
 
-    fn from(f: FrameFault) -> ReadFault {
-        ReadFault::Frame(f)
+    fn from(fault: FrameFault) -> ReadFault {
+        ReadFault::Frame(fault)
     }
 }
 

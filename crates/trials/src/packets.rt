@@ -143,6 +143,62 @@ fn run_bounds(rt: &LibcRuntime) -> Result<(), AnyError> {
     show(rt, "a count beyond the buffer", &shortest, 13)
 }
 
+/// Questions 6 to 8: the packet with one octet replaced.
+fn run_first_octets(rt: &LibcRuntime) -> Result<(), AnyError> {
+    let right = packet(rt, 0x85, &[1, 0, 9, 0], 1)?;
+    show(
+        rt,
+        "version 2",
+        &replaced(rt, &right, 0, 0x54)?,
+        right.len(),
+    )?;
+    show(
+        rt,
+        "protocol type 0",
+        &replaced(rt, &right, 0, 0x24)?,
+        right.len(),
+    )?;
+    show(
+        rt,
+        "no extension header flag",
+        &replaced(rt, &right, 0, 0x33)?,
+        right.len(),
+    )?;
+    show(
+        rt,
+        "all other flags set",
+        &replaced(rt, &right, 0, 0x3f)?,
+        right.len(),
+    )?;
+    show(
+        rt,
+        "an echo request",
+        &replaced(rt, &right, 1, 1)?,
+        right.len(),
+    )?;
+    show(
+        rt,
+        "a length of 8",
+        &replaced(rt, &right, 3, 8)?,
+        right.len(),
+    )?;
+    show(
+        rt,
+        "a length of 10",
+        &replaced(rt, &right, 3, 10)?,
+        right.len(),
+    )
+}
+
+/// The octets with another one at a place.
+fn replaced(rt: &LibcRuntime, octets: &[u8], place: usize, octet: u8) -> Result<Vec<u8>, AnyError> {
+    let mut copy = octets.to_vec(rt.alloc())?;
+    if let Some(at) = copy.get_mut(place) {
+        *at = octet;
+    }
+    Ok(copy)
+}
+
 /// Questions 9 and 10.
 fn run_chains(rt: &LibcRuntime) -> Result<(), AnyError> {
     let one = packet(rt, 0x40, &[1, 0, 0, 0x85, 1, 0, 9, 0], 1)?;
@@ -168,6 +224,7 @@ fn run_chains(rt: &LibcRuntime) -> Result<(), AnyError> {
 /// Runs the cases on packets.
 pub(crate) fn run(rt: &LibcRuntime) -> Result<(), AnyError> {
     run_bounds(rt)?;
+    run_first_octets(rt)?;
     run_chains(rt)?;
     walk(
         rt,

@@ -93,7 +93,7 @@ fn run_published(rt: &LibcRuntime) -> Result<(), AnyError> {
     )
 }
 
-/// A layout whose last item has a limit, and a governor that is absent.
+/// A layout whose last item has a limit and hangs on an octet that is governed itself.
 fn run_listed(rt: &LibcRuntime) -> Result<(), AnyError> {
     let raws = [
         octet(NO_GOVERNOR, 0, 0xf3),
@@ -107,33 +107,13 @@ fn run_listed(rt: &LibcRuntime) -> Result<(), AnyError> {
         pdu_type: 3,
         items: &items,
     };
-    show(
-        rt,
-        "all five",
-        &layout,
-        &[3, 0x3f, 0xff, 1, 0x11, 0x70, 0x80, 1, 44, 8, 9, 0],
-        64,
-    )?;
-    show(
-        rt,
-        "the last is over its limit",
-        &layout,
-        &[3, 0x3f, 0xff, 1, 0x11, 0x70, 0x80, 1, 45, 8, 9, 0],
-        64,
-    )?;
-    show(
-        rt,
-        "an early one is over its limit",
-        &layout,
-        &[3, 0x3f, 0xff, 1, 0x11, 0x71, 0x80, 1, 44, 8, 9, 0],
-        64,
-    )?;
+    show_limits(rt, &layout)?;
     show(rt, "an absent governor", &layout, &[1, 0x30, 0xff, 0], 64)?;
     show(
         rt,
         "without the third",
         &layout,
-        &[2, 0x31, 0x08, 0x80, 1, 1, 1, 0],
+        b"\x02\x31\x08\x80\x01\x01\x01\x00",
         64,
     )?;
     show(
@@ -143,6 +123,16 @@ fn run_listed(rt: &LibcRuntime) -> Result<(), AnyError> {
         &[1, 0x31, 0x08, 0],
         64,
     )
+}
+
+/// All five items, with numbers at and over their limits.
+fn show_limits<L: Layout>(rt: &LibcRuntime, layout: &L) -> Result<(), AnyError> {
+    let right = b"\x03\x3f\xff\x01\x11\x70\x80\x01\x2c\x08\x09\x00";
+    let late = b"\x03\x3f\xff\x01\x11\x70\x80\x01\x2d\x08\x09\x00";
+    let early = b"\x03\x3f\xff\x01\x11\x71\x80\x01\x2c\x08\x09\x00";
+    show(rt, "all five", layout, right, 64)?;
+    show(rt, "the last is over its limit", layout, late, 64)?;
+    show(rt, "an early one is over its limit", layout, early, 64)
 }
 
 /// 64 items.
