@@ -34,6 +34,14 @@ abbrev pub answer-of : {T E A : Type 0} → (T → A) → (E → Refusal) → Re
 answer-of f g (Ok x) = gives (f x)
 answer-of f g (Err e) = refused (g e)
 
+-- the layers' numbers
+abbrev pub layer-number : Layer → ℕ
+layer-number L.Layout = 1
+layer-number L.Packet = 2
+layer-number L.Frame = 3
+layer-number L.Call = 4
+layer-number L.Bench = 5
+
 -- the refusals of each layer: the question's number and the place; of a layout also its origin
 abbrev pub no-layout : ℕ → ℕ → ℕ → Refusal
 no-layout o n p = record { number = n; layer = L.Layout; place = p; origin = Some o }

@@ -1,4 +1,6 @@
 //! A refusal: the number of the question whose answer was no, its layer, the place, and the origin of the layout asked.
+ghost use mathlib.Core.Path.{_≡_};
+ghost use Rattle.base.specs.Answers.{layer-number};
 use std::fmt;
 
 /// What a question is put to.
@@ -22,6 +24,13 @@ pub struct Refusal {
 }
 
 impl Layer {
+    /// The layer's number: 1 layout, 2 packet, 3 frame, 4 call, 5 bench.
+    pub fn number(self) -> u8
+        ensures { λ r. ⌜ r ≡ layer-number self ⌝ }
+    {
+        self as u8
+    }
+
     /// The layer's name.
     fn name(self) -> &'static str {
         match self {
@@ -59,15 +68,19 @@ fn question(number: u8) -> &'static str {
 pub impl fmt::Display for Refusal as RefusalDisplay {
     fn fmt<W: fmt::Write>(&self, f: &mut fmt::Formatter<W>) -> fmt::Result {
         let number = self.number;
+        let level = self.layer.number();
         let layer = self.layer.name();
         let place = self.place;
         let asked = question(number);
         match self.origin {
             Some(origin) => write!(
                 f,
-                "refusal {number}, {layer} of origin {origin}, place {place}: {asked}"
+                "refusal {number}, layer {level} ({layer} of origin {origin}), place {place}: {asked}"
             ),
-            None => write!(f, "refusal {number}, {layer}, place {place}: {asked}"),
+            None => write!(
+                f,
+                "refusal {number}, layer {level} ({layer}), place {place}: {asked}"
+            ),
         }
     }
 }

@@ -7,7 +7,7 @@ use Rattle.base.specs.Answers.{Answer, refused, gives, no-bench}
 use Rattle.layout.specs.declared.table.Published.{Published}
 use Rattle.layout.specs.Tables.{published-meaning}
 use Rattle.frame.specs.declared.row.Row.{Row}
-use Rattle.frame.specs.Reading.{Opened, Told, opened-for-read, read-told, table-after}
+use Rattle.frame.specs.Reading.{Told, read-answer, read-table}
 use Rattle.bench.specs.declared.reply.Reply.{Reply}
 use Rattle.bench.specs.declared.reply.Reply.the-variants.{Refused, Kept, Shown}
 use Rattle.bench.specs.declared.state.Bench.{Bench}
@@ -18,9 +18,12 @@ abbrev pub reply-to-read : Published → Answer Told → Reply
 reply-to-read l (refused r) = Refused r
 reply-to-read l (gives t) = Shown l (t .present)
 
--- the packet of a bench taken apart by a published layout, whose origin is 1, with a table of k rows
-abbrev pub opened-by : Published → ℕ → Bench → Answer Opened
-opened-by l k b = opened-for-read 1 (published-meaning l) k (b .buffer) (b .count)
+-- a read of the bench's packet by a published layout, whose origin is 1, into the table t: its reply, and the table after it
+abbrev pub shown-reply : Published → Bench → List Row → Reply
+shown-reply l b t = reply-to-read l (read-answer 1 (published-meaning l) (b .buffer) (b .count) t)
+
+abbrev pub shown-table : Published → Bench → List Row → List Row
+shown-table l b t = read-table 1 (published-meaning l) (b .buffer) (b .count) t
 
 -- the same packet is kept
 abbrev pub Same : Bench → Bench → Type 0
@@ -33,7 +36,6 @@ pub record Answered (line : List ℕ) (b a : Bench) (t u : List Row) (r : Reply)
       → (a .buffer ≡ os ++ drop (length os) (b .buffer)) × (a .count ≡ length os) × (u ≡ t) × (r ≡ Kept (length os))
   -- `r` reads it and keeps it as it is
   pub read : (l : Published) → IsReadLine line l
-      → Same b a × (u ≡ table-after (published-meaning l) (opened-by l (length t) b) t)
-      × (r ≡ reply-to-read l (read-told (opened-by l (length t) b)))
+      → Same b a × (u ≡ shown-table l b t) × (r ≡ shown-reply l b t)
   -- any other line gives 29, and changes nothing
   pub other : IsNoCommand line → Same b a × (u ≡ t) × (r ≡ Refused (no-bench 29 0))

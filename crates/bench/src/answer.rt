@@ -1,9 +1,6 @@
 //! The bench's answer to a line.
 ghost use mathlib.Core.Path.{_≡_};
-ghost use lib.ListN.{length};
-ghost use Rattle.bench.specs.Replies.{Answered, reply-to-read, opened-by};
-ghost use Rattle.frame.specs.Reading.{read-told, table-after};
-ghost use Rattle.layout.specs.Tables.{published-meaning};
+ghost use Rattle.bench.specs.Replies.{Answered, shown-reply, shown-table};
 use crate::hex::decode;
 use crate::line::Command;
 use crate::line::parse;
@@ -25,18 +22,10 @@ const NO_COMMAND: Refusal = Refusal {
 };
 
 impl Bench {
-    /// A bench whose packet is empty.
-    pub(crate) fn new() -> Bench {
-        Bench {
-            buffer: [0; 9216],
-            count: 0,
-        }
-    }
-
     /// Reads the packet by a layout into the table.
     fn show(&self, layout: Published, rows: &mut [Row]) -> Reply
-        ensures reply { λ r. ⌜ r ≡ reply-to-read layout (read-told (opened-by layout (length (now (rows .entry))) (now (self .entry)))) ⌝ }
-        ensures table { λ _. ⌜ now (rows .exit) ≡ table-after (published-meaning layout) (opened-by layout (length (now (rows .entry))) (now (self .entry))) (now (rows .entry)) ⌝ }
+        ensures reply { λ r. ⌜ r ≡ shown-reply layout (now (self .entry)) (now (rows .entry)) ⌝ }
+        ensures table { λ _. ⌜ now (rows .exit) ≡ shown-table layout (now (self .entry)) (now (rows .entry)) ⌝ }
     {
         match read(&layout, &self.buffer, self.count, rows) {
             Ok(reading) => Reply::Shown {

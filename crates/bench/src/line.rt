@@ -6,9 +6,7 @@ ghost use Rattle.std.specs.Options.{Cases};
 ghost use Rattle.bench.specs.Lines.{IsCommand, IsNoCommand, layout-text};
 ghost use Rattle.bench.specs.Tests.{is-hex-digit, are-hex-digits, are-hex-pairs};
 use layout::table::Published;
-
-/// The most octets of a packet on a line.
-const MOST_PAIRS: usize = 9216;
+use packet::octets::MOST_OCTETS;
 
 /// A command: keep the packet that hexadecimal digits write, or read the packet by a layout.
 #[derive(Clone, Copy)]
@@ -70,7 +68,7 @@ fn are_pairs(field: &[u8]) -> bool
     ensures { λ r. ⌜ r ≡ are-hex-pairs (now (field .entry)) ⌝ }
 {
     let len = field.len();
-    len > 0 && len % 2 == 0 && len <= 2 * MOST_PAIRS && are_digits(field)
+    len > 0 && len % 2 == 0 && len <= 2 * MOST_OCTETS && are_digits(field)
 }
 
 /// The command that a line is, if it is one.

@@ -3,17 +3,19 @@ use crate::input::next_line;
 use crate::print::push_reply;
 use crate::state::Bench;
 use frame::row::Row;
+use layout::lawful::MOST_ITEMS;
+use packet::octets::MOST_OCTETS;
 use std::alloc::Global;
 use std::error::AnyError;
 
-/// The octets of the longest command; of a longer line, which is none, only so much is kept that it stays longer.
-const LONGEST_LINE: usize = 2 + 2 * 9216;
+/// The octets of the longest command. Of a longer line one octet more is kept, which is enough to see that it is none.
+const LONGEST_LINE: usize = 2 + 2 * MOST_OCTETS;
 
 /// A bench with its table, the start of a line whose end has not come yet, and the text of its answers.
 #[derive(Drop)]
 pub struct Session {
     bench: Bench,
-    rows: [Row; 64],
+    rows: [Row; MOST_ITEMS],
     line: Vec<u8>,
     pub text: String,
 }
@@ -28,7 +30,7 @@ impl Session {
         };
         Session {
             bench: Bench::new(),
-            rows: [row; 64],
+            rows: [row; MOST_ITEMS],
             line: Vec::new(heap),
             text: String::new(heap),
         }

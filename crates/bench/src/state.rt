@@ -2,9 +2,7 @@
 ghost use mathlib.Core.Path.{_≡_};
 ghost use Prim.Native.Nat.{_≤_};
 ghost use lib.ListN.{length};
-
-/// The most octets that the bench keeps.
-pub const MOST_OCTETS: usize = 9216;
+use packet::octets::MOST_OCTETS;
 
 /// The packet is the first `count` octets of the buffer.
 #[derive(Drop)]
@@ -13,4 +11,16 @@ pub struct Bench {
     pub count: usize,
     ghost wide: { length buffer ≡ 9216 },
     ghost most: { count ≤ 9216 },
+}
+
+impl Bench {
+    /// A bench whose packet is empty.
+    pub(crate) fn new() -> Bench
+        ensures { λ r. ⌜ r .count ≡ 0 ⌝ }
+    {
+        Bench {
+            buffer: [0; MOST_OCTETS],
+            count: 0,
+        }
+    }
 }

@@ -6,3 +6,4 @@ pub mod Cutting
 pub mod Filling
 pub mod Presence
 pub mod Examples
+pub mod Showing

@@ -5,7 +5,7 @@ ghost use lib.ListN.{length};
 ghost use Rattle.std.specs.Results.{Cases};
 ghost use Rattle.base.specs.Answers.{answer-of, refused};
 ghost use Rattle.frame.specs.Faults.{frame-refusal, read-refusal};
-ghost use Rattle.frame.specs.Laws.{Reading-is-only-cut};
+ghost use Rattle.frame.specs.Laws.{Reading-is-only-cut, Rows-show-items};
 ghost use Rattle.frame.specs.Reading.{opened-for-read, opened-packet};
 ghost use Rattle.frame.specs.Views.{opened-of, gathered-packet, IsOpen};
 ghost use Rattle.frame.specs.Worked.{WorkedFrames};
@@ -60,6 +60,7 @@ pub(crate) fn open_for_read<'a, L: Layout>(
 ) -> Result<Open<'a>, ReadFault>
     ensures opens { λ r. ⌜ Cases r (λ o. IsOpen (meaning (now (layout .entry))) «row_count» o (opened-for-read (L·Layout .source) (meaning (now (layout .entry))) «row_count» (now (buffer .entry)) count)) (λ f. opened-for-read (L·Layout .source) (meaning (now (layout .entry))) «row_count» (now (buffer .entry)) count ≡ refused (read-refusal f)) ⌝ }
     ensures only_cut { λ _. ⌜ Reading-is-only-cut ⌝ }
+    ensures rows_show { λ _. ⌜ Rows-show-items ⌝ }
     ensures worked { λ _. ⌜ WorkedFrames ⌝ }
 {
     check_layout(layout)?;

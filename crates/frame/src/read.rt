@@ -1,10 +1,9 @@
 //! Read: questions 1 to 13, and then a row for each item.
 ghost use mathlib.Core.Path.{_≡_};
-ghost use lib.ListN.{length};
 ghost use Rattle.base.specs.Answers.{answer-of};
 ghost use Rattle.frame.specs.Faults.{read-refusal};
-ghost use Rattle.frame.specs.Laws.{Reading-is-only-cut};
-ghost use Rattle.frame.specs.Reading.{opened-for-read, read-told, table-after};
+ghost use Rattle.frame.specs.Laws.{Reading-is-only-cut, Rows-show-items};
+ghost use Rattle.frame.specs.Reading.{read-answer, read-table};
 ghost use Rattle.frame.specs.Views.{told-of};
 ghost use Rattle.frame.specs.Worked.{WorkedFrames};
 use crate::fault::ReadFault;
@@ -30,9 +29,10 @@ pub fn read<'a, L: Layout>(
     count: usize,
     rows: &mut [Row],
 ) -> Result<Reading<'a>, ReadFault>
-    ensures answer { λ r. ⌜ answer-of told-of read-refusal r ≡ read-told (opened-for-read (L·Layout .source) (meaning (now (layout .entry))) (length (now (rows .entry))) (now (buffer .entry)) count) ⌝ }
-    ensures table { λ _. ⌜ now (rows .exit) ≡ table-after (meaning (now (layout .entry))) (opened-for-read (L·Layout .source) (meaning (now (layout .entry))) (length (now (rows .entry))) (now (buffer .entry)) count) (now (rows .entry)) ⌝ }
+    ensures answer { λ r. ⌜ answer-of told-of read-refusal r ≡ read-answer (L·Layout .source) (meaning (now (layout .entry))) (now (buffer .entry)) count (now (rows .entry)) ⌝ }
+    ensures table { λ _. ⌜ now (rows .exit) ≡ read-table (L·Layout .source) (meaning (now (layout .entry))) (now (buffer .entry)) count (now (rows .entry)) ⌝ }
     ensures only_cut { λ _. ⌜ Reading-is-only-cut ⌝ }
+    ensures rows_show { λ _. ⌜ Rows-show-items ⌝ }
     ensures worked { λ _. ⌜ WorkedFrames ⌝ }
 {
     let Open { found, survey } = open_for_read(layout, rows.len(), buffer, count)?;

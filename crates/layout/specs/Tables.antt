@@ -1,13 +1,10 @@
 -- The published layouts, item by item.
 use mathlib.Core.List.{List, [], _∷_, _++_, map}
 use mathlib.Core.Path.{_≡_}
-use mathlib.Core.Bool.{true, cond}
+use mathlib.Core.Bool.{true}
 use Prim.Native.Nat.{ℕ, _-_, _^_, _<_}
-use lib.Dec.{eqb}
 use lib.ListN.{length}
 use lib.Chars.{codes}
-use Rattle.std.specs.declared.option.Option.{Option}
-use Rattle.std.specs.declared.option.Option.the-variants.{Some, None}
 use Rattle.base.specs.Answers.{gives}
 use Rattle.layout.specs.declared.table.Published.{Published}
 use Rattle.layout.specs.declared.table.Published.the-variants.{Dl16, Ul161, Ul163, Ul19}
@@ -89,10 +86,6 @@ published-meaning p = record { pdu-type = published-type p; items = published-it
 -- a row of a table of the code
 abbrev pub row-meaning : TableRow → NamedItem
 row-meaning r = record { name = r .name; item = meant (r .item) }
-
--- the bench's numbers for the published layouts
-abbrev pub published-number : ℕ → Option Published
-published-number n = cond (eqb n 1) (Some Dl16) (cond (eqb n 2) (Some Ul161) (cond (eqb n 3) (Some Ul163) (cond (eqb n 4) (Some Ul19) None)))
 
 -- the rules that every published table keeps: each item may exist, and the layout passes questions 1 to 3
 abbrev pub Tables-stand : Type 0

@@ -1,6 +1,6 @@
 //! The interface behind which every layout stands.
 ghost use mathlib.Core.Path.{_≡_};
-ghost use Prim.Native.Nat.{ℕ};
+ghost use Prim.Native.Nat.{ℕ, _≤_};
 ghost use lib.ListN.{length};
 ghost use Rattle.std.specs.Finite.{nth};
 ghost use Rattle.std.specs.Options.{mapped};
@@ -23,9 +23,10 @@ pub trait Layout {
     fn origin_number(&self) -> u8
         ensures { λ r. ⌜ r ≡ source ⌝ };
 
-    /// The PDU type.
+    /// The PDU type, a half octet.
     fn pdu_type(&self) -> u8
-        ensures { λ r. ⌜ r ≡ meaning (now (self .entry)) .pdu-type ⌝ };
+        ensures value { λ r. ⌜ r ≡ meaning (now (self .entry)) .pdu-type ⌝ }
+        ensures half { λ r. ⌜ r ≤ 15 ⌝ };
 
     /// How many items there are.
     fn count(&self) -> usize

@@ -14,5 +14,6 @@ pub trait NamedLayout: Layout {
     /// The name of item number `i`; zeros past the end.
     fn name(&self, i: usize) -> [u8; 3]
         ensures value { λ r. ⌜ r ≡ name-at (names (now (self .entry))) i ⌝ }
-        ensures past { λ r. ⌜ (length (Self·Layout .meaning (now (self .entry)) .items) ≤ i → r ≡ 0 ∷ 0 ∷ 0 ∷ []) ⌝ };
+        ensures past { λ r. ⌜ (length (Self·Layout .meaning (now (self .entry)) .items) ≤ i → r ≡ 0 ∷ 0 ∷ 0 ∷ []) ⌝ }
+        ensures each { λ _. ⌜ length (names (now (self .entry))) ≡ length (Self·Layout .meaning (now (self .entry)) .items) ⌝ };
 }

@@ -1,6 +1,5 @@
 //! The published kind of layout.
-ghost use mathlib.Core.Path.{_≡_};
-ghost use Rattle.layout.specs.Tables.{published-meaning, published-names, published-number};
+ghost use Rattle.layout.specs.Tables.{published-meaning, published-names};
 use crate::item::Item;
 use crate::layout::Layout;
 use crate::named::NamedLayout;
@@ -32,10 +31,7 @@ pub impl Layout for Published as PublishedLayout {
     }
 
     fn item(&self, i: usize) -> Option<Item> {
-        match self.row(i) {
-            Some(row) => Some(row.item),
-            None => None,
-        }
+        Some(self.row(i)?.item)
     }
 }
 
@@ -46,21 +42,6 @@ pub impl NamedLayout for Published as PublishedNames {
         match self.row(i) {
             Some(row) => row.name,
             None => [0; 3],
-        }
-    }
-}
-
-impl Published {
-    /// The published layout of a number from 1 to 4, as the bench numbers them.
-    pub fn numbered(number: u8) -> Option<Published>
-        ensures { λ r. ⌜ r ≡ published-number number ⌝ }
-    {
-        match number {
-            1 => Some(Published::Dl16),
-            2 => Some(Published::Ul161),
-            3 => Some(Published::Ul163),
-            4 => Some(Published::Ul19),
-            _ => None,
         }
     }
 }

@@ -4,3 +4,4 @@ pub mod Headers
 pub mod Chains
 pub mod Walks
 pub mod Containers
+pub mod Layouts

@@ -6,7 +6,7 @@ use lib.ListN.{length, getD, take, drop}
 use Rattle.std.specs.Holes.{between}
 use Rattle.base.specs.Answers.{gives}
 use Rattle.packet.specs.Chains.{HeaderMeaning, Chain, chain-of}
-use Rattle.packet.specs.Containers.{Located}
+use Rattle.packet.specs.Containers.{Located, container}
 
 -- the type that announces a list of headers: that of the first, and 0 where there is none
 abbrev pub announced : List HeaderMeaning → ℕ
@@ -27,6 +27,11 @@ abbrev pub InPlace : ℕ → List HeaderMeaning → Type 0
 InPlace p [] = Unit {0}
 InPlace p (h ∷ hs) = (h .type ≡ 0 → ⊥) × ((length (h .content) + 2) % 4 ≡ 0) × (h .place ≡ p) × InPlace (p + 4 * units h) hs
 
+-- none of the headers is a container
+abbrev pub NoContainer : List HeaderMeaning → Type 0
+NoContainer [] = Unit {0}
+NoContainer (h ∷ hs) = (h .type ≡ 133 → ⊥) × NoContainer hs
+
 -- The headers, put one after another, are exactly the packet's octets from 12 to the chain's end.
 pub record IsChain (k : List ℕ) (c : Chain) : Type 0 where
   pub first : getD k 11 0 ≡ announced (c .headers)
@@ -39,6 +44,24 @@ abbrev pub Walk-is-chain : Type 0
 Walk-is-chain =
     (k : List ℕ) → 12 ≤ length k → length k ≤ 9216
     → (c : Chain) → (chain-of k ≡ gives c → IsChain k c) × (IsChain k c → chain-of k ≡ gives c)
+
+-- Of every packet in which a container is found: it is the first twelve octets, the headers one after another, and the inner
+-- packet; and the container is the one header of its type.
+pub record IsLaidOut (k : List ℕ) (w : Located) : Type 0 where
+  pub chain : Chain
+  pub walked : chain-of k ≡ gives chain
+  pub octets : k ≡ take 12 k ++ (laid-out (chain .headers) ++ w .inner)
+  pub before : List HeaderMeaning
+  pub container : HeaderMeaning
+  pub behind : List HeaderMeaning
+  pub headers : chain .headers ≡ before ++ container ∷ behind
+  pub type : container .type ≡ 133
+  pub no-other : NoContainer before × NoContainer behind
+  pub place : w .place ≡ container .place
+  pub frame : w .frame ≡ container .content
+
+abbrev pub Packet-is-laid-out : Type 0
+Packet-is-laid-out = (b : List ℕ) (n : ℕ) (w : Located) → container b n ≡ gives w → IsLaidOut (take n b) w
 
 -- Where a container that is found lies, its packet being the first n octets of the buffer b: the packet's count, the
 -- container between the first octets and the chain's end, its unit count, and the parts that are its frame and the inner packet.

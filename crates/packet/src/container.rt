@@ -5,7 +5,7 @@ ghost use lib.ListN.{length};
 ghost use Rattle.base.specs.Answers.{answer-of};
 ghost use Rattle.packet.specs.Containers.{container as container-in, first-octets};
 ghost use Rattle.packet.specs.Faults.{packet-refusal};
-ghost use Rattle.packet.specs.Laws.{Walk-is-chain};
+ghost use Rattle.packet.specs.Laws.{Walk-is-chain, Packet-is-laid-out};
 ghost use Rattle.packet.specs.Views.{located-of, walked-of};
 ghost use Rattle.packet.specs.Walks.{found-by};
 use crate::fault::PacketFault;
@@ -36,6 +36,7 @@ pub struct Found<'a> {
 pub fn find_container(buffer: &[u8], count: usize) -> Result<Found<'_>, PacketFault>
     ensures answer { λ r. ⌜ answer-of located-of packet-refusal r ≡ container-in (now (buffer .entry)) count ⌝ }
     ensures chain { λ _. ⌜ Walk-is-chain ⌝ }
+    ensures laid_out { λ _. ⌜ Packet-is-laid-out ⌝ }
 {
     if count < FIRST_OCTETS || count > MOST_OCTETS || count > buffer.len() {
         return Err(PacketFault::Count { count });
@@ -50,6 +51,7 @@ fn find_in_packet(buffer: &[u8], count: usize) -> Result<Found<'_>, PacketFault>
     requires held { ⌜ count ≤ length (now buffer) ⌝ }
     ensures answer { λ r. ⌜ answer-of located-of packet-refusal r ≡ container-in (now (buffer .entry)) count ⌝ }
     ensures chain { λ _. ⌜ Walk-is-chain ⌝ }
+    ensures laid_out { λ _. ⌜ Packet-is-laid-out ⌝ }
 {
     let packet = &buffer[0..count];
     check_first_octets(packet)?;

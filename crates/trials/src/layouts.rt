@@ -1,5 +1,4 @@
 //! Questions 1 to 3, the maker of items, and names.
-use crate::listed::LISTED;
 use crate::listed::Listed;
 use crate::listed::ListedLayout;
 use base::refusal::RefusalDisplay;
@@ -166,6 +165,11 @@ fn try_items(rt: &LibcRuntime) -> Result<(), AnyError> {
     try_item(rt, "kind 2", RawItem { kind: 2, ..plain })
 }
 
+/// The constant of a kind of layout, as generic code reads it.
+fn constant_of<L: Layout>(_layout: &L) -> u8 {
+    L::ORIGIN
+}
+
 /// Prints the names of a published layout, and the octets of the name past its end.
 fn name_items(rt: &LibcRuntime, layout: Published) -> Result<(), AnyError> {
     for i in 0..layout.count() {
@@ -188,7 +192,13 @@ pub(crate) fn run(rt: &LibcRuntime) -> Result<(), AnyError> {
     try_items(rt)?;
     name_items(rt, Published::Dl16)?;
     name_items(rt, Published::Ul19)?;
-    let published = <Published as Layout>::ORIGIN;
-    println!(rt, "origins {published} {LISTED}")?;
+    let published = constant_of(&Published::Dl16);
+    let listed = constant_of(
+        &Listed {
+            pdu_type: 0,
+            items: &[],
+        },
+    );
+    println!(rt, "origins {published} {listed}")?;
     Ok(())
 }

@@ -25,7 +25,7 @@ pub impl<'a> Layout for Listed<'a> as ListedLayout {
     const ORIGIN: u8 = LISTED;
 
     fn origin_number(&self) -> u8 {
-        LISTED
+        Self::ORIGIN
     }
 
     fn pdu_type(&self) -> u8 {

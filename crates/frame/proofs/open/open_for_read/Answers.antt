@@ -10,6 +10,7 @@ use Rattle.frame.specs.declared.fault.ReadFault.the-variants.{Frame}
 use Rattle.frame.specs.Views.{opened-of}
 use Rattle.frame.proofs.Opening.{read-no-layout, read-no-rows, read-no-packet, read-accepted}
 use Rattle.frame.proofs.Presence.{reading-is-only-cut}
+use Rattle.frame.proofs.Showing.{rows-show-items}
 use Rattle.frame.proofs.Examples.{worked-frames}
 use Rattle.frame.proofs.open.open_for_read.Needs as need
 
@@ -21,6 +22,7 @@ returns-in-Break-check-layout g c =
           (read-no-layout (g .L·Layout .source) (g .L·Layout .meaning (c .args .layout .now)) (c .args .row-count) (c .args .buffer .now) (c .args .count)
           _ (c .in-Break-check-layout .ensures tt));
       only-cut = reading-is-only-cut;
+      rows-show = rows-show-items;
       worked = worked-frames;
     }
 
@@ -31,6 +33,7 @@ returns-then-count-row-count g c =
           read-no-rows (g .L·Layout .source) (g .L·Layout .meaning (c .args .layout .now)) (c .args .row-count) (c .args .buffer .now) (c .args .count)
           (c .in-Continue-check-layout .ensures tt) (omega arith);
       only-cut = reading-is-only-cut;
+      rows-show = rows-show-items;
       worked = worked-frames;
     }
 
@@ -46,6 +49,7 @@ returns-in-Break-open g c =
           (read-no-packet (g .L·Layout .source) (g .L·Layout .meaning (c .args .layout .now)) (c .args .row-count) (c .args .buffer .now) (c .args .count)
           (c .in-Continue-check-layout .ensures tt) (omega arith) _ (c .in-Break-open .ensures tt));
       only-cut = reading-is-only-cut;
+      rows-show = rows-show-items;
       worked = worked-frames;
     }
 
@@ -66,5 +70,6 @@ returns g c =
         table = a .table;
       };
       only-cut = reading-is-only-cut;
+      rows-show = rows-show-items;
       worked = worked-frames;
     }

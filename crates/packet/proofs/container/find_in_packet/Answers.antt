@@ -3,6 +3,7 @@ use mathlib.Core.Path.{sym, _∙_}
 use Rattle.packet.specs.Faults.{packet-refusal}
 use Rattle.packet.specs.Views.{located-of}
 use Rattle.packet.proofs.Chains.{walk-is-chain}
+use Rattle.packet.proofs.Layouts.{packet-is-laid-out}
 use Rattle.packet.proofs.Containers.{refused-by-first-octets, refused-by-walk, given-by-walk}
 use Rattle.base.proofs.Asking.{answer-at-break}
 use Rattle.packet.proofs.container.find_in_packet.Needs as need
@@ -13,6 +14,7 @@ returns-in-Break-check-first-octets c =
     record {
       answer = answer-at-break located-of packet-refusal _ _ _ (c .from-residual .ensures .1) q;
       chain = walk-is-chain;
+      laid-out = packet-is-laid-out;
     }
 
 pub returns-in-Break-walk : need.returns-in-Break-walk
@@ -22,10 +24,11 @@ returns-in-Break-walk c =
     record {
       answer = answer-at-break located-of packet-refusal _ _ _ (c .from-residual-in-Break-walk .ensures .1) q;
       chain = walk-is-chain;
+      laid-out = packet-is-laid-out;
     }
 
 pub returns : need.returns
 returns c =
     let first = c .in-Continue-check-first-octets .ensures tt in
     let q = given-by-walk _ _ (c .pre .least) (c .pre .most) (c .pre .held) _ first (c .in-Continue-walk .ensures tt) in
-    record { answer = c .one-container .ensures ∙ sym q; chain = walk-is-chain }
+    record { answer = c .one-container .ensures ∙ sym q; chain = walk-is-chain; laid-out = packet-is-laid-out }
