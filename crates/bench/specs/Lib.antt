@@ -3,3 +3,4 @@ pub mod Tests
 pub mod Replies
 pub mod Texts
 pub mod Inputs
+pub mod Sessions

@@ -1,5 +1,6 @@
 //! The bench: reads lines from standard input, keeps one packet, and answers each line on standard output.
 mod answer;
+mod feed;
 mod hex;
 mod input;
 mod line;
