@@ -39,9 +39,6 @@ pub impl NamedLayout for Published as PublishedNames {
     ghost names = { published-names };
 
     fn name(&self, i: usize) -> [u8; 3] {
-        match self.row(i) {
-            Some(row) => row.name,
-            None => [0; 3],
-        }
+        self.row_name(i)
     }
 }

@@ -1,10 +1,12 @@
 //! The published layouts as tables: 3GPP TS 38.415 v16.1.0, v16.3.0 and v19.1.0.
 ghost use mathlib.Core.Path.{_≡_};
-ghost use mathlib.Core.List.{map};
+ghost use mathlib.Core.List.{[], _∷_, map};
+ghost use Prim.Native.Nat.{_≤_};
 ghost use lib.ListN.{length};
 ghost use Rattle.std.specs.Finite.{nth};
 ghost use Rattle.std.specs.Options.{mapped};
-ghost use Rattle.layout.specs.Tables.{published as rows-of, row-meaning};
+ghost use Rattle.layout.specs.Items.{name-at};
+ghost use Rattle.layout.specs.Tables.{published as rows-of, published-items, published-names, row-meaning};
 use crate::item::Item;
 use crate::kind::Governor;
 use crate::kind::Kind;
@@ -123,6 +125,18 @@ impl Published {
             Published::Ul161 => nth_row(&UL_161, i),
             Published::Ul163 => nth_row(&UL_163, i),
             Published::Ul19 => nth_row(&UL_19, i),
+        }
+    }
+
+    /// The name in row number `i`, and zeros past the end.
+    pub(crate) fn row_name(self, i: usize) -> [u8; 3]
+        ensures value { λ r. ⌜ r ≡ name-at (published-names self) i ⌝ }
+        ensures past { λ r. ⌜ (length (published-items self) ≤ i → r ≡ 0 ∷ 0 ∷ 0 ∷ []) ⌝ }
+        ensures each { λ _. ⌜ length (published-names self) ≡ length (published-items self) ⌝ }
+    {
+        match self.row(i) {
+            Some(row) => row.name,
+            None => [0; 3],
         }
     }
 }
