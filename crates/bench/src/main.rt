@@ -1,4 +1,6 @@
 //! The bench: reads lines from standard input, keeps one packet, and answers each line on standard output.
+#![tactic(auto)]
+
 mod answer;
 mod feed;
 mod hex;

@@ -1,4 +1,6 @@
 //! The extension kind of layout: any layout, with bits named and items added.
+#![tactic(auto)]
+
 pub mod additions;
 pub mod build;
 pub mod extended;

@@ -1,4 +1,6 @@
 //! The frame by a layout: read, with questions 1 to 13.
+#![tactic(auto)]
+
 pub mod fault;
 mod fill;
 mod item;

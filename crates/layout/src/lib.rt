@@ -1,4 +1,6 @@
 //! What a frame's items are: items, the layout interface, the published layouts, and the questions put to a layout.
+#![tactic(auto)]
+
 pub mod entry;
 pub mod fault;
 pub mod item;

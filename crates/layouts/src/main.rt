@@ -1,6 +1,8 @@
 //! Shows layouts. Given a layout, it prints its items and draws its frame; given two, it says whether the second extends the
 //! first. A layout is a published one by its name, or a layout file by its path. Without arguments, requests are read from
 //! standard input, one a line.
+#![tactic(auto)]
+
 mod figure;
 mod role;
 mod roles;

@@ -1,4 +1,5 @@
 //! Cases that no line of the bench reaches: other layouts, other tables, other buffers. Each prints a line.
+#![tactic(auto)]
 
 mod layouts;
 mod listed;

@@ -14,5 +14,5 @@ returns c =
     c.loop-octet.invariant ∙ ap (λ l. big_endian l % 2 ^ 64) (take_all c.loop-octet.octet-index os c.loop-octet-test.false) in
     record {
       wrapped = w;
-      exact = λ few. w ∙ mod-eq_of_lt (big_endian_small os (λ i. omega (arith, c.type-inv.octets i)) few);
+      exact = λ few. w ∙ mod-eq_of_lt (big_endian_small os (λ i. omega (arith, c.type_inv.octets i)) few);
     }
