@@ -1,5 +1,5 @@
 -- Bits of octets: the laws of `bit` over bit_and, bit_or, 255 - m and 2 ^ b.
-use Rattle.std.proofs.Common.{◌≡◌, ℕ, zero, suc, ◌+◌, ◌-◌, ◌*◌, ◌/◌, ◌%◌, ◌^◌, ◌<◌, ◌≤◌, min, max, ◌≢◌, ◌⊎◌, sym, refl, ap, ◌∙◌, subst, inl, inr, ⊎_elim, lt_of_lt_of_le, div-one, arith, lit<, pow_mono}
+use Rattle.std.proofs.Common.{◌≡◌, ℕ, zero, suc, ◌+◌, ◌-◌, ◌/◌, ◌%◌, ◌^◌, ◌<◌, ◌≤◌, min, max, ◌≢◌, refl, ap, ◌∙◌, ⊎_elim, lt_of_lt_of_le, div-one, arith, lit<, pow_mono}
 use lib.Bits.{bit_and, bit_or, and_step, or_step, and_shr, or_shr}
 use native.Mathlib.Nat.{div-eq_of_lt}
 use Rattle.std.proofs.lemmas.Bool.{cases_lt}

@@ -43,7 +43,7 @@ fn push_ok(out: &mut String, count: usize) -> fmt::Result
 
 /// Adds a line for each present item of the first rows, one row for each item of the layout.
 fn push_rows<N: NamedLayout>(out: &mut String, layout: &N, rows: &[Row]) -> fmt::Result
-    ensures { OnOk result (string_bytes out.new ≡ string_bytes out.old ++ rows_text (N.NamedLayout.names layout.now) 0 (take (length (N.Layout.meaning layout.now).items) rows.now)) }
+    ensures { OnOk result (string_bytes out.new ≡ string_bytes out.old ++ rows_text (N.names layout.now) 0 (take (length (N.meaning layout.now).items) rows.now)) }
 {
     let count = layout.count().min(rows.len());
     for i in 0..count {
@@ -59,7 +59,7 @@ fn push_shown<N: NamedLayout>(
     rows: &[Row],
     present: usize,
 ) -> fmt::Result
-    ensures { OnOk result (string_bytes out.new ≡ string_bytes out.old ++ (rows_text (N.NamedLayout.names layout.now) 0 (take (length (N.Layout.meaning layout.now).items) rows.now) ++ ok_text present)) }
+    ensures { OnOk result (string_bytes out.new ≡ string_bytes out.old ++ (rows_text (N.names layout.now) 0 (take (length (N.meaning layout.now).items) rows.now) ++ ok_text present)) }
 {
     push_rows(out, layout, rows)?;
     push_ok(out, present)

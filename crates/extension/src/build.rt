@@ -65,8 +65,8 @@ impl<L: Layout> Extension<L> {
 
     /// Question 27: whether a governor is an earlier bits octet, its bit spare below or in an added item.
     fn may_hang_on(&self, low: usize, governor: Governor) -> bool
-        requires { low ≡ length (L.Layout.meaning self.now.below).items }
-        ensures { result ≡ may_hang_on (L.Layout.meaning self.now.below) (extras_of self.now.more) (governed_by governor.item governor.bit) }
+        requires { low ≡ length (L.meaning self.now.below).items }
+        ensures { result ≡ may_hang_on (L.meaning self.now.below) (extras_of self.now.more) (governed_by governor.item governor.bit) }
     {
         let at = governor.item as usize;
         if at < low {
@@ -84,9 +84,9 @@ impl<L: Layout> Extension<L> {
 
     /// Puts the questions of adding: 1 to 3 of the layout below, 25, 26, 27.
     fn judge(&self, entry: &RawEntry) -> Result<Item, BuildFault>
-        ensures answer { answer_of meant build_refusal result ≡ may_add L.Layout.source (L.Layout.meaning self.now.below) (extras_of self.now.more) entry.now }
+        ensures answer { answer_of meant build_refusal result ≡ may_add L.source (L.meaning self.now.below) (extras_of self.now.more) entry.now }
         ensures extends { BuiltExtends }
-        ensures ready { IfOk result (λ i. Ready (length (L.Layout.meaning self.now.below).items) self.now.more.count (governor_meaning i.governor)) }
+        ensures ready { IfOk result (λ i. Ready (length (L.meaning self.now.below).items) self.now.more.count (governor_meaning i.governor)) }
     {
         lawful(&self.below)?;
         let low = self.below.count();
@@ -111,7 +111,7 @@ impl<L: Layout> Extension<L> {
 
     /// Adds an item behind the others, and names its governor's bit. The entry is written as in a layout file.
     pub fn add(&mut self, entry: RawEntry) -> Result<(), BuildFault>
-        ensures answer { answer_of (λ _. extras_of self.new.more) build_refusal result ≡ add_entry L.Layout.source (L.Layout.meaning self.old.below) (extras_of self.old.more) entry }
+        ensures answer { answer_of (λ _. extras_of self.new.more) build_refusal result ≡ add_entry L.source (L.meaning self.old.below) (extras_of self.old.more) entry }
         ensures unchanged { OnErr result (self.new.more ≡ self.old.more) }
         ensures below { self.new.below ≡ self.old.below }
         ensures extends { BuiltExtends }
@@ -124,7 +124,7 @@ impl<L: Layout> Extension<L> {
 
     /// Question 28: whether bits are not none, and all spare in a bits octet below.
     fn may_name(&self, item: usize, bits: u8) -> bool
-        ensures { result ≡ may_name (L.Layout.meaning self.now.below) item bits }
+        ensures { result ≡ may_name (L.meaning self.now.below) item bits }
     {
         match self.below.item(item) {
             Some(octet) => has_all_spare(&octet, bits),
@@ -134,7 +134,7 @@ impl<L: Layout> Extension<L> {
 
     /// Puts the questions of naming: 1 to 3 of the layout below, 28.
     fn judge_bits(&self, item: usize, bits: u8) -> Result<(), BuildFault>
-        ensures answer { answer_of (λ u. u) build_refusal result ≡ may_name_bits L.Layout.source (L.Layout.meaning self.now.below) item bits }
+        ensures answer { answer_of (λ u. u) build_refusal result ≡ may_name_bits L.source (L.meaning self.now.below) item bits }
         ensures extends { BuiltExtends }
         ensures within { OnOk result (item < 64) }
     {
@@ -147,7 +147,7 @@ impl<L: Layout> Extension<L> {
 
     /// Names bits of a bits octet below.
     pub fn name_bits(&mut self, item: usize, bits: u8) -> Result<(), BuildFault>
-        ensures answer { answer_of (λ _. extras_of self.new.more) build_refusal result ≡ name_bits L.Layout.source (L.Layout.meaning self.old.below) (extras_of self.old.more) item bits }
+        ensures answer { answer_of (λ _. extras_of self.new.more) build_refusal result ≡ name_bits L.source (L.meaning self.old.below) (extras_of self.old.more) item bits }
         ensures unchanged { OnErr result (self.new.more ≡ self.old.more) }
         ensures below { self.new.below ≡ self.old.below }
         ensures extends { BuiltExtends }

@@ -53,8 +53,8 @@ impl Additions {
 impl<L: Layout> Extension<L> {
     /// Item number `i`, and how many items there are: the layout below is asked once.
     fn look(&self, i: usize) -> (Option<Item>, usize)
-        ensures item { option_map meant result.0 ≡ slice_get (over (L.Layout.meaning self.now.below) (extras_of self.now.more)).items i }
-        ensures count { result.1 ≡ length (over (L.Layout.meaning self.now.below) (extras_of self.now.more)).items }
+        ensures item { option_map meant result.0 ≡ slice_get (over (L.meaning self.now.below) (extras_of self.now.more)).items i }
+        ensures count { result.1 ≡ length (over (L.meaning self.now.below) (extras_of self.now.more)).items }
     {
         let (item, low) = self.below.item_and_count(i);
         self.more.extend(i, item, low)
@@ -62,14 +62,14 @@ impl<L: Layout> Extension<L> {
 
     /// How many items there are.
     fn count_all(&self) -> usize
-        ensures { result ≡ length (over (L.Layout.meaning self.now.below) (extras_of self.now.more)).items }
+        ensures { result ≡ length (over (L.meaning self.now.below) (extras_of self.now.more)).items }
     {
         self.more.count_over(self.below.count())
     }
 }
 
 impl<L: Layout> Layout for Extension<L> {
-    ghost meaning = { λ e. over (L.Layout.meaning e.below) (extras_of e.more) };
+    ghost meaning = { λ e. over (L.meaning e.below) (extras_of e.more) };
 
     ghost source = { 3 };
 
@@ -113,9 +113,9 @@ impl Additions {
 impl<L: NamedLayout> Extension<L> {
     /// The name of item number `i`; zeros past the end.
     fn name_at(&self, i: usize) -> [u8; 3]
-        ensures value { result ≡ name_at (extended_names (length (L.Layout.meaning self.now.below).items) (L.NamedLayout.names self.now.below) (extras_of self.now.more)) i }
-        ensures past { length (over (L.Layout.meaning self.now.below) (extras_of self.now.more)).items ≤ i → result ≡ 0 ∷ 0 ∷ 0 ∷ [] }
-        ensures each { length (extended_names (length (L.Layout.meaning self.now.below).items) (L.NamedLayout.names self.now.below) (extras_of self.now.more)) ≡ length (over (L.Layout.meaning self.now.below) (extras_of self.now.more)).items }
+        ensures value { result ≡ name_at (extended_names (length (L.meaning self.now.below).items) (L.names self.now.below) (extras_of self.now.more)) i }
+        ensures past { length (over (L.meaning self.now.below) (extras_of self.now.more)).items ≤ i → result ≡ 0 ∷ 0 ∷ 0 ∷ [] }
+        ensures each { length (extended_names (length (L.meaning self.now.below).items) (L.names self.now.below) (extras_of self.now.more)) ≡ length (over (L.meaning self.now.below) (extras_of self.now.more)).items }
     {
         let low = self.below.count();
         let below = self.below.name(i);
@@ -130,7 +130,7 @@ impl<L: NamedLayout> Extension<L> {
 }
 
 impl<L: NamedLayout> NamedLayout for Extension<L> {
-    ghost names = { λ e. extended_names (length (L.Layout.meaning e.below).items) (L.NamedLayout.names e.below) (extras_of e.more) };
+    ghost names = { λ e. extended_names (length (L.meaning e.below).items) (L.names e.below) (extras_of e.more) };
 
     fn name(&self, i: usize) -> [u8; 3] {
         self.name_at(i)

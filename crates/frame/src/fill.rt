@@ -17,11 +17,11 @@ pub(crate) fn fill_rows<L: Layout>(
     octets: &[u8],
     rows: &mut [Row],
 )
-    requires surveyed { Surveyed (meaning layout.now).items place frame.now octets.now }
-    requires enough { length (meaning layout.now).items ≤ length octets.now }
-    requires fits { length (meaning layout.now).items ≤ length rows.old }
+    requires surveyed { Surveyed (L.meaning layout.now).items place frame.now octets.now }
+    requires enough { length (L.meaning layout.now).items ≤ length octets.now }
+    requires fits { length (L.meaning layout.now).items ≤ length rows.old }
     requires room { place + length frame.now < 2 ^ 64 }
-    ensures { rows.new ≡ filled (meaning layout.now).items place (cut_from (meaning layout.now).items [] place frame.now) rows.old }
+    ensures { rows.new ≡ filled (L.meaning layout.now).items place (cut_from (L.meaning layout.now).items [] place frame.now) rows.old }
 {
     let mut at = place;
     let mut rest = frame;

@@ -23,7 +23,7 @@ pub(crate) struct Open<'a> {
 
 /// Questions 1 to 3.
 fn check_layout<L: Layout>(layout: &L) -> Result<(), FrameFault>
-    ensures { answer_of (λ u. u) frame_refusal result ≡ passes L.Layout.source (meaning layout.now) }
+    ensures { answer_of (λ u. u) frame_refusal result ≡ passes L.source (L.meaning layout.now) }
 {
     lawful(layout)?;
     Ok(())
@@ -35,8 +35,8 @@ fn open_packet<'a, L: Layout>(
     buffer: &'a [u8],
     count: usize,
 ) -> Result<Open<'a>, FrameFault>
-    requires { length (meaning layout.now).items ≤ 64 }
-    ensures { answer_of (opened_of (length (meaning layout.now).items)) frame_refusal result ≡ gathered_packet (opened_packet (meaning layout.now) buffer.now count) }
+    requires { length (L.meaning layout.now).items ≤ 64 }
+    ensures { answer_of (opened_of (length (L.meaning layout.now).items)) frame_refusal result ≡ gathered_packet (opened_packet (L.meaning layout.now) buffer.now count) }
 {
     let found = find_container(buffer, count)?;
     let survey = survey_frame(layout, found.frame, found.place + 1)?;
@@ -50,7 +50,7 @@ pub(crate) fn open_for_read<'a, L: Layout>(
     buffer: &'a [u8],
     count: usize,
 ) -> Result<Open<'a>, ReadFault>
-    ensures opens { MatchResult result (λ o. IsOpen (meaning layout.now) row_count o (opened_for_read L.Layout.source (meaning layout.now) row_count buffer.now count)) (λ f. opened_for_read L.Layout.source (meaning layout.now) row_count buffer.now count ≡ refused (read_refusal f)) }
+    ensures opens { MatchResult result (λ o. IsOpen (L.meaning layout.now) row_count o (opened_for_read L.source (L.meaning layout.now) row_count buffer.now count)) (λ f. opened_for_read L.source (L.meaning layout.now) row_count buffer.now count ≡ refused (read_refusal f)) }
     ensures only_cut { ReadingIsOnlyCut }
     ensures rows_show { RowsShowItems }
     ensures worked { WorkedFrames }

@@ -29,8 +29,8 @@ pub fn read<'a, L: Layout>(
     count: usize,
     rows: &mut [Row],
 ) -> Result<Reading<'a>, ReadFault>
-    ensures answer { answer_of told_of read_refusal result ≡ read_answer L.Layout.source (meaning layout.now) buffer.now count rows.old }
-    ensures table { rows.new ≡ read_table L.Layout.source (meaning layout.now) buffer.now count rows.old }
+    ensures answer { answer_of told_of read_refusal result ≡ read_answer L.source (L.meaning layout.now) buffer.now count rows.old }
+    ensures table { rows.new ≡ read_table L.source (L.meaning layout.now) buffer.now count rows.old }
     ensures only_cut { ReadingIsOnlyCut }
     ensures rows_show { RowsShowItems }
     ensures worked { WorkedFrames }

@@ -26,9 +26,9 @@ fn survey_items<'a, L: Layout>(
     frame: &'a [u8],
     place: usize,
 ) -> Result<Survey<'a>, FrameFault>
-    requires few { length (meaning layout.now).items ≤ 64 }
+    requires few { length (L.meaning layout.now).items ≤ 64 }
     requires room { place + length frame.now < 2 ^ 64 }
-    ensures { answer_of (gathered_of (length (meaning layout.now).items)) frame_refusal result ≡ surveyed (cut_from (meaning layout.now).items [] place frame.now) }
+    ensures { answer_of (gathered_of (length (L.meaning layout.now).items)) frame_refusal result ≡ surveyed (cut_from (L.meaning layout.now).items [] place frame.now) }
 {
     let mut octets = [0u8; MOST_ITEMS];
     let mut present = 0;
@@ -74,9 +74,9 @@ pub(crate) fn survey_frame<'a, L: Layout>(
     frame: &'a [u8],
     place: usize,
 ) -> Result<Survey<'a>, FrameFault>
-    requires few { length (meaning layout.now).items ≤ 64 }
+    requires few { length (L.meaning layout.now).items ≤ 64 }
     requires room { place + length frame.now < 2 ^ 64 }
-    ensures { answer_of (gathered_of (length (meaning layout.now).items)) frame_refusal result ≡ surveyed (cut_frame (meaning layout.now) place frame.now) }
+    ensures { answer_of (gathered_of (length (L.meaning layout.now).items)) frame_refusal result ≡ surveyed (cut_frame (L.meaning layout.now) place frame.now) }
 {
     if first_octet(frame) / 16 != layout.pdu_type() {
         return Err(FrameFault::PduType { place });

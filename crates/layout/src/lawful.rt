@@ -33,10 +33,10 @@ fn governor_fits(governor: Option<Governor>, earlier: &[u8]) -> bool
 
 /// The first item whose governor does not fit; the count where all do.
 fn first_misfit<L: Layout>(layout: &L, count: usize) -> usize
-    requires all { count ≡ length (meaning layout.now).items }
+    requires all { count ≡ length (L.meaning layout.now).items }
     requires few { count ≤ 64 }
-    ensures place { result ≡ misfit (meaning layout.now).items }
-    ensures items { result ≡ count → EachMayExist (meaning layout.now).items }
+    ensures place { result ≡ misfit (L.meaning layout.now).items }
+    ensures items { result ≡ count → EachMayExist (L.meaning layout.now).items }
 {
     let mut masks = [0u8; MOST_ITEMS];
     for i in 0..count {
@@ -64,7 +64,7 @@ fn may_lead(item: &Item) -> bool
 
 /// Whether item 0 is there and may lead.
 fn first_leads<L: Layout>(layout: &L) -> bool
-    ensures { result ≡ leads (item_at (meaning layout.now).items 0) }
+    ensures { result ≡ leads (item_at (L.meaning layout.now).items 0) }
 {
     match layout.item(0) {
         None => false,
@@ -81,9 +81,9 @@ fn may_count(count: usize) -> bool
 
 /// Puts questions 1 to 3 to a layout of so many items.
 fn put_questions<L: Layout>(layout: &L, count: usize) -> Result<(), LayoutFault>
-    requires { count ≡ length (meaning layout.now).items }
-    ensures answer { answer_of (λ u. u) layout_refusal result ≡ passes L.Layout.source (meaning layout.now) }
-    ensures items { OnOk result (EachMayExist (meaning layout.now).items) }
+    requires { count ≡ length (L.meaning layout.now).items }
+    ensures answer { answer_of (λ u. u) layout_refusal result ≡ passes L.source (L.meaning layout.now) }
+    ensures items { OnOk result (EachMayExist (L.meaning layout.now).items) }
     ensures published { TablesStand }
 {
     let origin = layout.origin_number();
@@ -102,8 +102,8 @@ fn put_questions<L: Layout>(layout: &L, count: usize) -> Result<(), LayoutFault>
 
 /// Puts questions 1 to 3 to a layout. Each item of one that passes may exist; the published ones pass.
 pub fn lawful<L: Layout>(layout: &L) -> Result<(), LayoutFault>
-    ensures answer { answer_of (λ u. u) layout_refusal result ≡ passes L.Layout.source (meaning layout.now) }
-    ensures items { OnOk result (EachMayExist (meaning layout.now).items) }
+    ensures answer { answer_of (λ u. u) layout_refusal result ≡ passes L.source (L.meaning layout.now) }
+    ensures items { OnOk result (EachMayExist (L.meaning layout.now).items) }
     ensures published { TablesStand }
 {
     let count = layout.count();

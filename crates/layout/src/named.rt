@@ -12,6 +12,6 @@ pub trait NamedLayout: Layout {
     /// The name of item number `i`; zeros past the end.
     fn name(&self, i: usize) -> [u8; 3]
         ensures value { result ≡ name_at (names self.now) i }
-        ensures past { length (Self.Layout.meaning self.now).items ≤ i → result ≡ 0 ∷ 0 ∷ 0 ∷ [] }
-        ensures each { length (names self.now) ≡ length (Self.Layout.meaning self.now).items };
+        ensures past { length (Self.meaning self.now).items ≤ i → result ≡ 0 ∷ 0 ∷ 0 ∷ [] }
+        ensures each { length (names self.now) ≡ length (Self.meaning self.now).items };
 }

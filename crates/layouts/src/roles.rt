@@ -20,7 +20,7 @@ fn is_bit(governor: Option<Governor>, item: usize, bit: u8) -> bool
 
 /// The first item that a bit governs.
 fn first_governed<L: Layout>(layout: &L, item: usize, bit: u8) -> Option<usize>
-    ensures { MatchOption result (NoneBelow (meaning layout.now).items item bit (length (meaning layout.now).items)) (λ j. (j < length (meaning layout.now).items) × Governs (meaning layout.now).items item bit j × NoneBelow (meaning layout.now).items item bit j) }
+    ensures { MatchOption result (NoneBelow (L.meaning layout.now).items item bit (length (L.meaning layout.now).items)) (λ j. (j < length (L.meaning layout.now).items) × Governs (L.meaning layout.now).items item bit j × NoneBelow (L.meaning layout.now).items item bit j) }
 {
     for j in 0..layout.count() {
         let Some(governed) = layout.item(j) else {
@@ -36,7 +36,7 @@ fn first_governed<L: Layout>(layout: &L, item: usize, bit: u8) -> Option<usize>
 /// The role of a bit of item number `item`, which has this mask.
 pub(crate) fn role_of<L: Layout>(layout: &L, item: usize, mask: u8, bit: u8) -> Role
     requires { bit < 8 }
-    ensures { HasRole (meaning layout.now).items item bit mask result }
+    ensures { HasRole (L.meaning layout.now).items item bit mask result }
 {
     if item == 0 && bit >= 4 {
         return Role::PduType;

@@ -12,7 +12,7 @@ use layout::layout::Layout;
 
 /// Whether both layouts are lawful and of one type. Here the laws of the relation are at hand too.
 fn check_both<L: Layout, U: Layout>(lower: &L, upper: &U) -> Result<(), ExtendsFault>
-    ensures answer { MatchResult result (λ _. Comparable (L.Layout.meaning lower.now) (U.Layout.meaning upper.now)) (λ f. Reason L.Layout.source U.Layout.source (L.Layout.meaning lower.now) (U.Layout.meaning upper.now) f) }
+    ensures answer { MatchResult result (λ _. Comparable (L.meaning lower.now) (U.meaning upper.now)) (λ f. Reason L.source U.source (L.meaning lower.now) (U.meaning upper.now) f) }
     ensures exclude { ReasonsExclude }
     ensures order { ExtendsIsOrder }
     ensures topmost { TopmostExtends }
@@ -41,9 +41,9 @@ fn compare_items<L: Layout, U: Layout>(
     upper: &U,
     count: usize,
 ) -> Result<(), ExtendsFault>
-    requires all { count ≡ length (L.Layout.meaning lower.now).items }
-    requires comparable { Comparable (L.Layout.meaning lower.now) (U.Layout.meaning upper.now) }
-    ensures { MatchResult result (λ _. AlikeBelow (L.Layout.meaning lower.now).items (U.Layout.meaning upper.now).items count) (λ f. Reason L.Layout.source U.Layout.source (L.Layout.meaning lower.now) (U.Layout.meaning upper.now) f) }
+    requires all { count ≡ length (L.meaning lower.now).items }
+    requires comparable { Comparable (L.meaning lower.now) (U.meaning upper.now) }
+    ensures { MatchResult result (λ _. AlikeBelow (L.meaning lower.now).items (U.meaning upper.now).items count) (λ f. Reason L.source U.source (L.meaning lower.now) (U.meaning upper.now) f) }
 {
     for i in 0..count {
         let Some(below) = lower.item(i) else {
@@ -61,8 +61,8 @@ fn compare_items<L: Layout, U: Layout>(
 
 /// Whether a governor lies above a layout of `count` items: its bit is spare there, or in an item that is not there.
 fn lies_above<L: Layout>(lower: &L, count: usize, governor: Option<Governor>) -> bool
-    requires { count ≡ length (L.Layout.meaning lower.now).items }
-    ensures { MatchBool result (HangsAbove (L.Layout.meaning lower.now).items (governor_meaning governor)) (HangsAbove (L.Layout.meaning lower.now).items (governor_meaning governor) → ⊥) }
+    requires { count ≡ length (L.meaning lower.now).items }
+    ensures { MatchBool result (HangsAbove (L.meaning lower.now).items (governor_meaning governor)) (HangsAbove (L.meaning lower.now).items (governor_meaning governor) → ⊥) }
 {
     let Some(g) = governor else {
         return false;
@@ -83,10 +83,10 @@ fn check_further<L: Layout, U: Layout>(
     upper: &U,
     count: usize,
 ) -> Result<(), ExtendsFault>
-    requires all { count ≡ length (L.Layout.meaning lower.now).items }
-    requires comparable { Comparable (L.Layout.meaning lower.now) (U.Layout.meaning upper.now) }
-    requires alike { AlikeBelow (L.Layout.meaning lower.now).items (U.Layout.meaning upper.now).items count }
-    ensures { MatchResult result (λ _. Extending (L.Layout.meaning lower.now) (U.Layout.meaning upper.now)) (λ f. Reason L.Layout.source U.Layout.source (L.Layout.meaning lower.now) (U.Layout.meaning upper.now) f) }
+    requires all { count ≡ length (L.meaning lower.now).items }
+    requires comparable { Comparable (L.meaning lower.now) (U.meaning upper.now) }
+    requires alike { AlikeBelow (L.meaning lower.now).items (U.meaning upper.now).items count }
+    ensures { MatchResult result (λ _. Extending (L.meaning lower.now) (U.meaning upper.now)) (λ f. Reason L.source U.source (L.meaning lower.now) (U.meaning upper.now) f) }
 {
     for i in count..upper.count() {
         let Some(item) = upper.item(i) else {
@@ -101,7 +101,7 @@ fn check_further<L: Layout, U: Layout>(
 
 /// Whether the upper layout extends the lower, and if not, where it first fails.
 pub fn extends<L: Layout, U: Layout>(lower: &L, upper: &U) -> Result<(), ExtendsFault>
-    ensures answer { MatchResult result (λ _. Extending (L.Layout.meaning lower.now) (U.Layout.meaning upper.now)) (λ f. Reason L.Layout.source U.Layout.source (L.Layout.meaning lower.now) (U.Layout.meaning upper.now) f) }
+    ensures answer { MatchResult result (λ _. Extending (L.meaning lower.now) (U.meaning upper.now)) (λ f. Reason L.source U.source (L.meaning lower.now) (U.meaning upper.now) f) }
     ensures exclude { ReasonsExclude }
     ensures order { ExtendsIsOrder }
     ensures topmost { TopmostExtends }

@@ -72,10 +72,10 @@ pub(crate) fn check_rows<L: Layout>(
     rows: &[Row],
     count: usize,
 ) -> Result<usize, WriteFault>
-    requires all { count ≡ length (meaning layout.now).items }
+    requires all { count ≡ length (L.meaning layout.now).items }
     requires enough { count ≤ length rows.now }
     requires few { count ≤ 64 }
-    ensures { MatchResult result (λ s. (first_unfit (meaning layout.now) rows.now ≡ count) × (s ≡ length (joined (pieces_for (meaning layout.now).items rows.now))) × (s ≤ 512)) (λ f. (f ≡ of-unfit (first_unfit (meaning layout.now) rows.now)) × (first_unfit (meaning layout.now) rows.now ≢ count)) }
+    ensures { MatchResult result (λ s. (first_unfit (L.meaning layout.now) rows.now ≡ count) × (s ≡ length (joined (pieces_for (L.meaning layout.now).items rows.now))) × (s ≤ 512)) (λ f. (f ≡ of-unfit (first_unfit (L.meaning layout.now) rows.now)) × (first_unfit (L.meaning layout.now) rows.now ≢ count)) }
 {
     let pdu_type = layout.pdu_type();
     let mut size = 0;

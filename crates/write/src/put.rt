@@ -10,11 +10,11 @@ use layout::layout::Layout;
 
 /// Puts the items of a record, one after another. The rows fit, and there is a place for each octet.
 fn put_items<L: Layout>(layout: &L, rows: &[Row], count: usize, out: &mut [u8])
-    requires all { count ≡ length (meaning layout.now).items }
+    requires all { count ≡ length (L.meaning layout.now).items }
     requires enough { count ≤ length rows.now }
-    requires fit { first_unfit (meaning layout.now) rows.now ≡ count }
-    requires sized { length out.old ≡ length (joined (pieces_for (meaning layout.now).items rows.now)) }
-    ensures { out.new ≡ joined (pieces_for (meaning layout.now).items rows.now) }
+    requires fit { first_unfit (L.meaning layout.now) rows.now ≡ count }
+    requires sized { length out.old ≡ length (joined (pieces_for (L.meaning layout.now).items rows.now)) }
+    ensures { out.new ≡ joined (pieces_for (L.meaning layout.now).items rows.now) }
 {
     let mut at = 0;
     for i in 0..count {
@@ -36,12 +36,12 @@ pub(crate) fn put_frame<L: Layout>(
     size: usize,
     out: &mut [u8],
 )
-    requires all { count ≡ length (meaning layout.now).items }
+    requires all { count ≡ length (L.meaning layout.now).items }
     requires enough { count ≤ length rows.now }
-    requires fit { first_unfit (meaning layout.now) rows.now ≡ count }
-    requires sized { size ≡ length (joined (pieces_for (meaning layout.now).items rows.now)) }
-    requires whole { length out.old ≡ length (plain_frame (meaning layout.now).items rows.now) + 1 }
-    ensures { out.new ≡ plain_frame (meaning layout.now).items rows.now ++ 0 ∷ [] }
+    requires fit { first_unfit (L.meaning layout.now) rows.now ≡ count }
+    requires sized { size ≡ length (joined (pieces_for (L.meaning layout.now).items rows.now)) }
+    requires whole { length out.old ≡ length (plain_frame (L.meaning layout.now).items rows.now) + 1 }
+    ensures { out.new ≡ plain_frame (L.meaning layout.now).items rows.now ++ 0 ∷ [] }
 {
     put_items(layout, rows, count, &mut out[0..size]);
     out[size..].fill(0);

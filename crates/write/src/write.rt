@@ -49,7 +49,7 @@ fn plan_packet<L: Layout>(
     inner: &[u8],
     room: usize,
 ) -> Result<Plan, WriteFault>
-    ensures answer { MatchResult result (λ p. Planned (meaning layout.now) rows.now inner.now room p × ((t : ℕ) → written L.Layout.source (meaning layout.now) rows.now t inner.now room ≡ gives (packet_of t (plain_frame (meaning layout.now).items rows.now) inner.now))) (λ f. (t : ℕ) → written L.Layout.source (meaning layout.now) rows.now t inner.now room ≡ refused (write_refusal f)) }
+    ensures answer { MatchResult result (λ p. Planned (L.meaning layout.now) rows.now inner.now room p × ((t : ℕ) → written L.source (L.meaning layout.now) rows.now t inner.now room ≡ gives (packet_of t (plain_frame (L.meaning layout.now).items rows.now) inner.now))) (λ f. (t : ℕ) → written L.source (L.meaning layout.now) rows.now t inner.now room ≡ refused (write_refusal f)) }
 {
     lawful(layout)?;
     let items = layout.count();

@@ -4,7 +4,7 @@ use Rattle.bench.proofs.hex.decode.Goals as goal
 
 pub loop-i-preserved : goal.loop-i-preserved
 loop-i-preserved c =
-    decoded_more _ _ _ _ _ _ c.loop-i.invariant (omega arith) (omega arith) c.digit-value.ensures.value c.digit-value-in-loop-i.ensures.value
+    decoded_more _ _ _ _ _ _ c.loop-i.invariant (omega arith) (omega arith) c.digit_value.ensures.value c.digit_value-in-loop-i.ensures.value
 
 pub returns : goal.returns
 returns c = decoded_all _ _ _ _ _ c.loop-i.invariant refl (omega arith) (omega arith)

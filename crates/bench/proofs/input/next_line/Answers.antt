@@ -11,10 +11,10 @@ apart xs i c h e =
 pub returns : goal.returns
 returns c =
     let xs = c.args.input.now in
-    let i = c.line-end-end.result in
+    let i = c.line_end-end.result in
     let h : i < length xs = omega arith in (
-      rw (sub-zero, take_rest) (apart xs i 10 h (c.line-end-end.ensures.found h)),
+      rw (sub-zero, take_rest) (apart xs i 10 h (c.line_end-end.ensures.found h)),
       rw sub-zero (λ k l e.
           let m : k < i = omega (arith, length-take i xs) in
-          c.line-end-end.ensures.before k m (sym (get_or-take i xs k 0 m) ∙ e)),
+          c.line_end-end.ensures.before k m (sym (get_or-take i xs k 0 m) ∙ e)),
     )

@@ -12,8 +12,8 @@ loop-i-preserved g c =
     let rs = take n c.args.rows.now in
     let h : c.loop-i.i < length rs = omega (arith, length-take n c.args.rows.now) in
     rows_more ns rs c.loop-i.i (string_bytes c.args.out.now ++ rows_text ns 0 rs) (string_bytes c.loop-i.out) c.loop-i.invariant h
-    c.name.result (string_bytes c.push-row.new.out) (get_or c.args.rows.now c.loop-i.i absent)
-    c.name.ensures.value (sym (get_or-take n c.args.rows.now c.loop-i.i absent (omega arith))) c.in-ok-push-row.ensures
+    c.name.result (string_bytes c.push_row.new.out) (get_or c.args.rows.now c.loop-i.i absent)
+    c.name.ensures.value (sym (get_or-take n c.args.rows.now c.loop-i.i absent (omega arith))) c.in_ok-push_row.ensures
 
 pub returns : goal.returns
 returns g c =

@@ -3,7 +3,7 @@ use lib.Bits.{or_lt}
 use Rattle.extension.proofs.parts.with_bits.Goals as goal
 
 -- a bits octet with further bits named is one
-pub invariant-of-named : goal.invariant-of-named
-invariant-of-named c =
+pub invariant_of-named : goal.invariant_of-named
+invariant_of-named c =
     let i = c.args.item in
-    (i.some, (i.most, (or_lt 8 i.mask c.args.bits i.octet (omega (arith, c.ranges.bits)), (i.bits, (λ e. absurd (c.in-default.not-Number e), tt)))))
+    (i.some, (i.most, (or_lt 8 i.mask c.args.bits i.octet (omega (arith, c.ranges.bits)), (i.bits, (λ e. absurd (c.in_default.not-Number e), tt)))))

@@ -11,40 +11,40 @@ use Rattle.frame.proofs.Showing.{rows_show_items}
 use Rattle.frame.proofs.Examples.{worked_frames}
 use Rattle.frame.proofs.open.open_for_read.Goals as goal
 
-pub returns-in-err-check-layout : goal.returns-in-err-check-layout
-returns-in-err-check-layout g c =
+pub returns-in_err-check_layout : goal.returns-in_err-check_layout
+returns-in_err-check_layout g c =
     record {
       opens =
-          cases_at_break _ _ c.from-residual.result (Frame c.in-err-check-layout.field-0.0) c.from-residual.ensures.1
-          (read_no_layout g.L.Layout.source (g.L.Layout.meaning c.args.layout.now) c.args.row-count c.args.buffer.now c.args.count
-          _ c.in-err-check-layout.ensures);
+          cases_at_break _ _ c.from-residual.result (Frame c.in_err-check_layout.field-0.0) c.from-residual.ensures.1
+          (read_no_layout g.L.Layout.source (g.L.Layout.meaning c.args.layout.now) c.args.row_count c.args.buffer.now c.args.count
+          _ c.in_err-check_layout.ensures);
       only_cut = reading_is_only_cut;
       rows-show = rows_show_items;
       worked = worked_frames;
     }
 
-pub returns-then-count-row-count : goal.returns-then-count-row-count
-returns-then-count-row-count g c =
+pub returns-then-count-row_count : goal.returns-then-count-row_count
+returns-then-count-row_count g c =
     record {
       opens =
-          read_no_rows g.L.Layout.source (g.L.Layout.meaning c.args.layout.now) c.args.row-count c.args.buffer.now c.args.count
-          c.in-ok-check-layout.ensures (omega arith);
+          read_no_rows g.L.Layout.source (g.L.Layout.meaning c.args.layout.now) c.args.row_count c.args.buffer.now c.args.count
+          c.in_ok-check_layout.ensures (omega arith);
       only_cut = reading_is_only_cut;
       rows-show = rows_show_items;
       worked = worked_frames;
     }
 
-pub open-packet-requires : goal.open-packet-requires
-open-packet-requires g c =
-    (passes_from g.L.Layout.source (g.L.Layout.meaning c.args.layout.now) (sym c.in-ok-check-layout.ensures)).few
+pub open_packet-requires : goal.open_packet-requires
+open_packet-requires g c =
+    (passes_from g.L.Layout.source (g.L.Layout.meaning c.args.layout.now) (sym c.in_ok-check_layout.ensures)).few
 
-pub returns-in-err-open : goal.returns-in-err-open
-returns-in-err-open g c =
+pub returns-in_err-open : goal.returns-in_err-open
+returns-in_err-open g c =
     record {
       opens =
-          cases_at_break _ _ c.from-residual-in-err-open.result (Frame c.in-err-open.field-0.0) c.from-residual-in-err-open.ensures.1
-          (read_no_packet g.L.Layout.source (g.L.Layout.meaning c.args.layout.now) c.args.row-count c.args.buffer.now c.args.count
-          c.in-ok-check-layout.ensures (omega arith) _ c.in-err-open.ensures);
+          cases_at_break _ _ c.from-residual-in_err-open.result (Frame c.in_err-open.field-0.0) c.from-residual-in_err-open.ensures.1
+          (read_no_packet g.L.Layout.source (g.L.Layout.meaning c.args.layout.now) c.args.row_count c.args.buffer.now c.args.count
+          c.in_ok-check_layout.ensures (omega arith) _ c.in_err-open.ensures);
       only_cut = reading_is_only_cut;
       rows-show = rows_show_items;
       worked = worked_frames;
@@ -52,11 +52,11 @@ returns-in-err-open g c =
 
 pub returns : goal.returns
 returns g c =
-    let few = (passes_from g.L.Layout.source (g.L.Layout.meaning c.args.layout.now) (sym c.in-ok-check-layout.ensures)).few in
-    let a = read_accepted g.L.Layout.source (g.L.Layout.meaning c.args.layout.now) c.args.row-count c.args.buffer.now c.args.count
-    c.in-ok-check-layout.ensures (omega arith) (opened_of (length (g.L.Layout.meaning c.args.layout.now).items) c.in-ok-open.open)
-    c.in-ok-open.ensures in
-    let i = container_inside c.args.buffer.now c.args.count (located_of c.in-ok-open.open.found) a.found in
+    let few = (passes_from g.L.Layout.source (g.L.Layout.meaning c.args.layout.now) (sym c.in_ok-check_layout.ensures)).few in
+    let a = read_accepted g.L.Layout.source (g.L.Layout.meaning c.args.layout.now) c.args.row_count c.args.buffer.now c.args.count
+    c.in_ok-check_layout.ensures (omega arith) (opened_of (length (g.L.Layout.meaning c.args.layout.now).items) c.in_ok-open.open)
+    c.in_ok-open.ensures in
+    let i = container_inside c.args.buffer.now c.args.count (located_of c.in_ok-open.open.found) a.found in
     record {
       opens = record {
         surveyed = record { parts = a.parts; accepted = a.cut; octets = a.octets };

@@ -10,5 +10,5 @@ returns-in-None g c =
 
 pub returns-in-Some : goal.returns-in-Some
 returns-in-Some g c =
-    c.may-lead.ensures
+    c.may_lead.ensures
     ∙ ap may_lead (sym (get_or-from_nth (g.L.Layout.meaning c.args.layout.now).items 0 _ no_item c.in-Some.ensures))

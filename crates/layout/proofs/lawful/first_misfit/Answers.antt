@@ -9,19 +9,19 @@ loop-i-init g c = fitted_none _ _ refl
 
 pub unreachable-requires : goal.unreachable-requires
 unreachable-requires g c =
-    let h = le_from_nth (g.L.Layout.meaning c.args.layout.now).items c.loop-i.i c.in-default.ensures in
+    let h = le_from_nth (g.L.Layout.meaning c.args.layout.now).items c.loop-i.i c.in_default.ensures in
     omega arith
 
-pub returns-then-not-governor-fits : goal.returns-then-not-governor-fits
-returns-then-not-governor-fits g c =
+pub returns-then-not-governor_fits : goal.returns-then-not-governor_fits
+returns-then-not-governor_fits g c =
     record {
-      place = misfit_here _ _ _ _ c.loop-i.invariant c.in-Some.ensures _ c.if-not-governor-fits.ensures refl;
+      place = misfit_here _ _ _ _ c.loop-i.invariant c.in-Some.ensures _ c.if-not-governor_fits.ensures refl;
       items = λ e. absurd (let b : ⊥ = omega (arith, e, c.loop-i-test.true) in b);
     }
 
 pub loop-i-preserved : goal.loop-i-preserved
 loop-i-preserved g c =
-    fitted_more _ _ _ _ c.loop-i.invariant c.in-Some.ensures _ c.if-not-governor-fits.ensures refl (omega arith) (item_may_exist c.in-Some.item)
+    fitted_more _ _ _ _ c.loop-i.invariant c.in-Some.ensures _ c.if-not-governor_fits.ensures refl (omega arith) (item_may_exist c.in-Some.item)
 
 pub returns : goal.returns
 returns g c =

@@ -2,14 +2,14 @@ use Rattle.layoutfile.proofs.Passing.{refused_23, refused_24, refused_25, passed
 use Rattle.layoutfile.proofs.Written.{files_are_written}
 use Rattle.layoutfile.proofs.check.check_file.Goals as goal
 
-pub returns-then-not-starts-well : goal.returns-then-not-starts-well
-returns-then-not-starts-well c =
-    record { answer = refused_23 c.args.octets.now c.if-not-starts-well.ensures; written = files_are_written }
+pub returns-then-not-starts_well : goal.returns-then-not-starts_well
+returns-then-not-starts_well c =
+    record { answer = refused_23 c.args.octets.now c.if-not-starts_well.ensures; written = files_are_written }
 
-pub returns-then-not-is-well-sized : goal.returns-then-not-is-well-sized
-returns-then-not-is-well-sized c =
+pub returns-then-not-is_well_sized : goal.returns-then-not-is_well_sized
+returns-then-not-is_well_sized c =
     record {
-      answer = refused_24 c.args.octets.now c.if-not-starts-well.ensures c.if-not-is-well-sized.ensures;
+      answer = refused_24 c.args.octets.now c.if-not-starts_well.ensures c.if-not-is_well_sized.ensures;
       written = files_are_written;
     }
 
@@ -17,8 +17,8 @@ pub returns-then-entry-count : goal.returns-then-entry-count
 returns-then-entry-count c =
     record {
       answer =
-          refused_25 c.args.octets.now c.if-not-starts-well.ensures c.if-not-is-well-sized.ensures
-          c.first-wrong-entry-entry.result c.first-wrong-entry-entry.ensures c.if-entry-count.true;
+          refused_25 c.args.octets.now c.if-not-starts_well.ensures c.if-not-is_well_sized.ensures
+          c.first_wrong_entry-entry.result c.first_wrong_entry-entry.ensures c.if-entry-count.true;
       written = files_are_written;
     }
 
@@ -26,7 +26,7 @@ pub returns : goal.returns
 returns c =
     record {
       answer =
-          passed c.args.octets.now c.if-not-starts-well.ensures c.if-not-is-well-sized.ensures
-          c.first-wrong-entry-entry.result c.first-wrong-entry-entry.ensures c.if-entry-count.false;
+          passed c.args.octets.now c.if-not-starts_well.ensures c.if-not-is_well_sized.ensures
+          c.first_wrong_entry-entry.result c.first_wrong_entry-entry.ensures c.if-entry-count.false;
       written = files_are_written;
     }

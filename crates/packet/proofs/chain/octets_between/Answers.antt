@@ -18,4 +18,4 @@ pub returns : goal.returns
 returns c =
     let o = c.args.octets.now in
     let cut = ap (λ m. take m o) (sub-zero c.min.result ∙ c.min.ensures) ∙ take_min c.args.to o in
-    c.octets-from.ensures ∙ ap (drop c.args.from) cut ∙ sym (between_is o c.args.from c.args.to)
+    c.octets_from.ensures ∙ ap (drop c.args.from) cut ∙ sym (between_is o c.args.from c.args.to)

@@ -9,12 +9,12 @@ use Rattle.packet.proofs.container.check_first_octets.Goals as goal
 use Rattle.packet.proofs.container.check_first_octets.Goals.{then-flags-ne-GTP-1-via-then-flags-ne-GTP-1}
 use Rattle.packet.proofs.container.check_first_octets.Goals.{then-flags-ne-GTP-1-via-else-flags-ne-GTP-1+then-flags-eq0}
 
-pub returns-then-flags-ne-GTP-1 : goal.returns-then-flags-ne-GTP-1
-returns-then-flags-ne-GTP-1 c =
+pub returns-then-flags-ne-GTP_1 : goal.returns-then-flags-ne-GTP_1
+returns-then-flags-ne-GTP_1 c =
     let k = c.args.packet.now in
     let e = and-bit (get_or k 0 0) 2 in
     let flags : flags_right k ≡ false =
-    elim c.then-flags-ne-GTP-1.branch [
+    elim c.then-flags-ne-GTP_1.branch [
       | then-flags-ne-GTP-1-via-then-flags-ne-GTP-1 w ↦ grind (arith, nat_tests)
       | then-flags-ne-GTP-1-via-else-flags-ne-GTP-1+then-flags-eq0 w ↦ grind (arith, nat_tests)
     ] in

@@ -8,9 +8,9 @@ use Rattle.packet.proofs.Chains.{walk_is_chain}
 use Rattle.packet.proofs.Layouts.{packet_is_laid_out}
 use Rattle.packet.proofs.container.find_container.Goals as goal
 
-pub returns-then-count-lt-FIRST-OCTETS : goal.returns-then-count-lt-FIRST-OCTETS
+pub returns-then-count-lt-FIRST_OCTETS : goal.returns-then-count-lt-FIRST_OCTETS
 unfolding container
-returns-then-count-lt-FIRST-OCTETS c =
+returns-then-count-lt-FIRST_OCTETS c =
     let b = c.args.buffer.now in
     let n = c.args.count in
     let wrong : count_right b n ≡ false = grind (arith, nat_tests) in

@@ -8,27 +8,27 @@ use Rattle.packet.proofs.Containers.{refused_by_first_octets, refused-by-walk, g
 use Rattle.base.proofs.Asking.{answer_at_break}
 use Rattle.packet.proofs.container.find_in_packet.Goals as goal
 
-pub returns-in-err-check-first-octets : goal.returns-in-err-check-first-octets
-returns-in-err-check-first-octets c =
-    let q = refused_by_first_octets _ _ c.requires.least c.requires.most c.requires.held _ c.in-err-check-first-octets.ensures in
+pub returns-in_err-check_first_octets : goal.returns-in_err-check_first_octets
+returns-in_err-check_first_octets c =
+    let q = refused_by_first_octets _ _ c.requires.least c.requires.most c.requires.held _ c.in_err-check_first_octets.ensures in
     record {
       answer = answer_at_break located_of packet_refusal _ _ _ c.from-residual.ensures.1 q;
       chain = walk_is_chain;
       laid_out = packet_is_laid_out;
     }
 
-pub returns-in-err-walk : goal.returns-in-err-walk
-returns-in-err-walk c =
-    let first = c.in-ok-check-first-octets.ensures in
-    let q = refused-by-walk _ _ c.requires.least c.requires.most c.requires.held _ first c.in-err-walk.ensures in
+pub returns-in_err-walk : goal.returns-in_err-walk
+returns-in_err-walk c =
+    let first = c.in_ok-check_first_octets.ensures in
+    let q = refused-by-walk _ _ c.requires.least c.requires.most c.requires.held _ first c.in_err-walk.ensures in
     record {
-      answer = answer_at_break located_of packet_refusal _ _ _ c.from-residual-in-err-walk.ensures.1 q;
+      answer = answer_at_break located_of packet_refusal _ _ _ c.from-residual-in_err-walk.ensures.1 q;
       chain = walk_is_chain;
       laid_out = packet_is_laid_out;
     }
 
 pub returns : goal.returns
 returns c =
-    let first = c.in-ok-check-first-octets.ensures in
-    let q = given-by-walk _ _ c.requires.least c.requires.most c.requires.held _ first c.in-ok-walk.ensures in
-    record { answer = c.one-container.ensures ∙ sym q; chain = walk_is_chain; laid_out = packet_is_laid_out }
+    let first = c.in_ok-check_first_octets.ensures in
+    let q = given-by-walk _ _ c.requires.least c.requires.most c.requires.held _ first c.in_ok-walk.ensures in
+    record { answer = c.one_container.ensures ∙ sym q; chain = walk_is_chain; laid_out = packet_is_laid_out }

@@ -14,29 +14,29 @@ loop-kind-init c =
     let k = c.args.packet.now in
     subst (λ o. Going k (get_or k 11 0) 12 o nothing) (sym (take_rest k 12)) (going_starts k c.requires.least c.requires.most)
 
-pub returns-in-err-size : goal.returns-in-err-size
-returns-in-err-size c =
+pub returns-in_err-size : goal.returns-in_err-size
+returns-in_err-size c =
     answer_at_break walked_of packet_refusal _ _ _ c.from-residual.ensures.1
-    (going_stops _ _ _ _ _ c.loop-kind.invariant _ c.loop-kind-test.true c.in-err-size.ensures)
+    (going_stops _ _ _ _ _ c.loop-kind.invariant _ c.loop-kind-test.true c.in_err-size.ensures)
 
-pub overflow-sub-next : goal.overflow-sub-next
-overflow-sub-next c = let f = going-fits _ _ _ _ _ c.loop-kind.invariant _ c.in-ok-size.ensures in omega arith
+pub overflow_sub-next : goal.overflow_sub-next
+overflow_sub-next c = let f = going-fits _ _ _ _ _ c.loop-kind.invariant _ c.in_ok-size.ensures in omega arith
 
 pub bounds-rest-size : goal.bounds-rest-size
-bounds-rest-size c = let f = going-fits _ _ _ _ _ c.loop-kind.invariant _ c.in-ok-size.ensures in omega arith
+bounds-rest-size c = let f = going-fits _ _ _ _ _ c.loop-kind.invariant _ c.in_ok-size.ensures in omega arith
 
-pub overflow-add-place : goal.overflow-add-place
-overflow-add-place c = let f = going-fits _ _ _ _ _ c.loop-kind.invariant _ c.in-ok-size.ensures in omega arith
+pub overflow_add-place : goal.overflow_add-place
+overflow_add-place c = let f = going-fits _ _ _ _ _ c.loop-kind.invariant _ c.in_ok-size.ensures in omega arith
 
 pub loop-kind-smaller : goal.loop-kind-smaller
 loop-kind-smaller c =
-    let f = going-fits _ _ _ _ _ c.loop-kind.invariant _ c.in-ok-size.ensures in
+    let f = going-fits _ _ _ _ _ c.loop-kind.invariant _ c.in_ok-size.ensures in
     omega (arith, ap length c.step.ensures.rest)
 
 pub loop-kind-preserved : goal.loop-kind-preserved
 loop-kind-preserved c =
     let seen = c.noted-met.ensures ∙ ap (seen_after (seen_of c.loop-kind.met)) c.step.ensures.header in
-    let fits = c.in-ok-size.ensures in
+    let fits = c.in_ok-size.ensures in
     Going-more _ _ _ _ _ c.loop-kind.invariant _ _ _ c.loop-kind-test.true fits c.step.ensures.rest seen
 
 pub returns : goal.returns

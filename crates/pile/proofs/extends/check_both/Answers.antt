@@ -18,7 +18,7 @@ pub returns-in-Err-lawful : goal.returns-in-Err-lawful
 returns-in-Err-lawful g c =
     record {
       answer =
-          (lawful_layout _ _ c.in-default.ensures.items c.in-default.ensures.answer, sym c.in-Err-lawful.ensures.answer);
+          (lawful_layout _ _ c.in_default.ensures.items c.in_default.ensures.answer, sym c.in-Err-lawful.ensures.answer);
       exclude = reasons_exclude;
       order = extends_is_order;
       topmost = topmost_extends;
@@ -29,11 +29,11 @@ pub returns-then-below-above : goal.returns-then-below-above
 returns-then-below-above g c =
     record {
       answer = (
-        lawful_layout _ _ c.in-default.ensures.items c.in-default.ensures.answer,
-        lawful_layout _ _ c.in-default-lawful.ensures.items c.in-default-lawful.ensures.answer,
-        c.pdu-type-below.ensures.value,
-        c.pdu-type-above.ensures.value,
-        λ e. c.if-below-above.true (c.pdu-type-below.ensures.value ∙ e ∙ sym c.pdu-type-above.ensures.value),
+        lawful_layout _ _ c.in_default.ensures.items c.in_default.ensures.answer,
+        lawful_layout _ _ c.in_default-lawful.ensures.items c.in_default-lawful.ensures.answer,
+        c.pdu_type-below.ensures.value,
+        c.pdu_type-above.ensures.value,
+        λ e. c.if-below-above.true (c.pdu_type-below.ensures.value ∙ e ∙ sym c.pdu_type-above.ensures.value),
       );
       exclude = reasons_exclude;
       order = extends_is_order;
@@ -46,9 +46,9 @@ returns g c =
     record {
       answer =
           record {
-            below = lawful_layout _ _ c.in-default.ensures.items c.in-default.ensures.answer;
-            above = lawful_layout _ _ c.in-default-lawful.ensures.items c.in-default-lawful.ensures.answer;
-            type = sym c.pdu-type-below.ensures.value ∙ c.if-below-above.false ∙ c.pdu-type-above.ensures.value;
+            below = lawful_layout _ _ c.in_default.ensures.items c.in_default.ensures.answer;
+            above = lawful_layout _ _ c.in_default-lawful.ensures.items c.in_default-lawful.ensures.answer;
+            type = sym c.pdu_type-below.ensures.value ∙ c.if-below-above.false ∙ c.pdu_type-above.ensures.value;
           };
       exclude = reasons_exclude;
       order = extends_is_order;

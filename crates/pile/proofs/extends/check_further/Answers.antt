@@ -9,20 +9,20 @@ loop-i-init g c = λ j h l. absurd (let b : ⊥ = omega (arith, c.requires.all) 
 
 pub unreachable-requires : goal.unreachable-requires
 unreachable-requires g c =
-    let h = le_from_nth (g.U.Layout.meaning c.args.upper.now).items c.loop-i.i c.in-default.ensures in
+    let h = le_from_nth (g.U.Layout.meaning c.args.upper.now).items c.loop-i.i c.in_default.ensures in
     omega arith
 
-pub returns-then-not-lies-above : goal.returns-then-not-lies-above
-returns-then-not-lies-above g c =
+pub returns-then-not-lies_above : goal.returns-then-not-lies_above
+returns-then-not-lies_above g c =
     let low = g.L.Layout.meaning c.args.lower.now in
     let up = g.U.Layout.meaning c.args.upper.now in
-    stray_here g.L.Layout.source g.U.Layout.source low up c.loop-i.i _ c.in-Some.ensures c.if-not-lies-above.ensures
+    stray_here g.L.Layout.source g.U.Layout.source low up c.loop-i.i _ c.in-Some.ensures c.if-not-lies_above.ensures
     (omega (arith, c.requires.all)) c.loop-i.invariant c.requires.comparable (subst (AlikeBelow low.items up.items) c.requires.all c.requires.alike)
 
 pub loop-i-preserved : goal.loop-i-preserved
 loop-i-preserved g c =
     further_more (g.L.Layout.meaning c.args.lower.now).items (g.U.Layout.meaning c.args.upper.now).items c.loop-i.i _
-    c.in-Some.ensures c.if-not-lies-above.ensures c.loop-i.invariant
+    c.in-Some.ensures c.if-not-lies_above.ensures c.loop-i.invariant
 
 pub returns : goal.returns
 returns g c =

@@ -9,7 +9,7 @@ use Rattle.pile.proofs.extends.lies_above.Goals as goal
 
 pub unreachable-requires : goal.unreachable-requires
 unreachable-requires g c =
-    let h = le_from_nth (g.L.Layout.meaning c.args.lower.now).items c.in-Some.g.item c.in-default-item.ensures in
+    let h = le_from_nth (g.L.Layout.meaning c.args.lower.now).items c.in-Some.g.item c.in_default-item.ensures in
     omega arith
 
 pub returns : goal.returns

@@ -13,18 +13,18 @@ loop-i-init g c = fitting_none (g.L.Layout.meaning c.args.layout.now) c.args.row
 
 pub unreachable-requires : goal.unreachable-requires
 unreachable-requires g c =
-    let h = le_from_nth (g.L.Layout.meaning c.args.layout.now).items c.loop-i.i c.in-default.ensures in
+    let h = le_from_nth (g.L.Layout.meaning c.args.layout.now).items c.loop-i.i c.in_default.ensures in
     omega (arith, c.requires.all)
 
-pub returns-then-not-is-fit-at : goal.returns-then-not-is-fit-at
-returns-then-not-is-fit-at g c =
+pub returns-then-not-is_fit_at : goal.returns-then-not-is_fit_at
+returns-then-not-is_fit_at g c =
     let m = g.L.Layout.meaning c.args.layout.now in
     let rs = c.args.rows.now in
     let r : Row = get_or rs c.loop-i.i absent in
     let u : c.loop-i.i ≡ first_unfit m rs =
     unfit_here m rs c.loop-i.i c.loop-i.size c.loop-i.invariant (meant c.in-Some.item) r c.in-Some.ensures
     (nth_at rs c.loop-i.i absent (omega (arith, c.requires.enough)))
-    (c.if-not-is-fit-at.ensures ∙ ap (λ (t : ℕ). fit_at t c.loop-i.i (meant c.in-Some.item) rs r) c.pdu-type-pdu-type.ensures.value) in
+    (c.if-not-is_fit_at.ensures ∙ ap (λ (t : ℕ). fit_at t c.loop-i.i (meant c.in-Some.item) rs r) c.pdu_type-pdu_type.ensures.value) in
     (ap Unfit u, λ e. let b : ⊥ = omega (arith, u, e, c.loop-i-test.true) in b)
 
 pub loop-i-preserved : goal.loop-i-preserved
@@ -34,8 +34,8 @@ loop-i-preserved g c =
     let r : Row = get_or rs c.loop-i.i absent in
     fitting_more m rs c.loop-i.i c.loop-i.size c.loop-i.invariant (meant c.in-Some.item) r c.in-Some.ensures
     (nth_at rs c.loop-i.i absent (omega (arith, c.requires.enough)))
-    (c.if-not-is-fit-at.ensures ∙ ap (λ (t : ℕ). fit_at t c.loop-i.i (meant c.in-Some.item) rs r) c.pdu-type-pdu-type.ensures.value)
-    c.octets-in-size.result c.octets-in-size.ensures.is c.octets-in-size.ensures.few
+    (c.if-not-is_fit_at.ensures ∙ ap (λ (t : ℕ). fit_at t c.loop-i.i (meant c.in-Some.item) rs r) c.pdu_type-pdu_type.ensures.value)
+    c.octets_in-size.result c.octets_in-size.ensures.is c.octets_in-size.ensures.few
 
 pub returns : goal.returns
 returns g c =

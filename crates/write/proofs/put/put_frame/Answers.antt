@@ -5,32 +5,32 @@ use Rattle.write.specs.Writing.{pieces_for, padding}
 use Rattle.write.proofs.Putting.{frame_longer, behind_long, zeros_behind, one_zero_more}
 use Rattle.write.proofs.put.put_frame.Goals as goal
 
-pub slice-bounds-put-items-end : goal.slice-bounds-put-items-end
-slice-bounds-put-items-end g c =
+pub slice_bounds-put_items-end : goal.slice_bounds-put_items-end
+slice_bounds-put_items-end g c =
     let h : c.args.size ≤ length c.args.out.now = frame_longer (g.L.Layout.meaning c.args.layout.now).items c.args.rows.now c.args.size _ c.requires.sized c.requires.whole in
     search rules
 
-pub slice-bounds-fill-count : goal.slice-bounds-fill-count
-slice-bounds-fill-count g c =
+pub slice_bounds-fill-count : goal.slice_bounds-fill-count
+slice_bounds-fill-count g c =
     let m = g.L.Layout.meaning c.args.layout.now in
     let items = joined (pieces_for m.items c.args.rows.now) in
     let old = drop (c.args.size - 0) c.args.out.now in
     let pad = padding (length items) + 1 in
-    let e : length c.put-items.new.out ≡ c.args.size = ap length c.put-items.ensures ∙ sym c.requires.sized in
+    let e : length c.put_items.new.out ≡ c.args.size = ap length c.put_items.ensures ∙ sym c.requires.sized in
     let o : length old ≡ pad =
     length-drop (c.args.size - 0) c.args.out.now ∙ omega (arith, c.requires.whole, c.requires.sized, length-append items (replicate (padding (length items)) 0), length-replicate {A = ℕ} (padding (length items)) 0) in
-    omega (arith, behind_long c.put-items.new.out old c.args.size pad e o)
+    omega (arith, behind_long c.put_items.new.out old c.args.size pad e o)
 
-pub slice-bounds-fill-start : goal.slice-bounds-fill-start
-slice-bounds-fill-start g c =
+pub slice_bounds-fill-start : goal.slice_bounds-fill-start
+slice_bounds-fill-start g c =
     let m = g.L.Layout.meaning c.args.layout.now in
     let items = joined (pieces_for m.items c.args.rows.now) in
     let old = drop (c.args.size - 0) c.args.out.now in
     let pad = padding (length items) + 1 in
-    let e : length c.put-items.new.out ≡ c.args.size = ap length c.put-items.ensures ∙ sym c.requires.sized in
+    let e : length c.put_items.new.out ≡ c.args.size = ap length c.put_items.ensures ∙ sym c.requires.sized in
     let o : length old ≡ pad =
     length-drop (c.args.size - 0) c.args.out.now ∙ omega (arith, c.requires.whole, c.requires.sized, length-append items (replicate (padding (length items)) 0), length-replicate {A = ℕ} (padding (length items)) 0) in
-    let h = behind_long c.put-items.new.out old c.args.size pad e o in
+    let h = behind_long c.put_items.new.out old c.args.size pad e o in
     search rules
 
 pub returns : goal.returns
@@ -39,9 +39,9 @@ returns g c =
     let items = joined (pieces_for m.items c.args.rows.now) in
     let old = drop (c.args.size - 0) c.args.out.now in
     let pad = padding (length items) + 1 in
-    let e : length c.put-items.new.out ≡ c.args.size = ap length c.put-items.ensures ∙ sym c.requires.sized in
+    let e : length c.put_items.new.out ≡ c.args.size = ap length c.put_items.ensures ∙ sym c.requires.sized in
     let o : length old ≡ pad =
     length-drop (c.args.size - 0) c.args.out.now ∙ omega (arith, c.requires.whole, c.requires.sized, length-append items (replicate (padding (length items)) 0), length-replicate {A = ℕ} (padding (length items)) 0) in
-    zeros_behind c.put-items.new.out old c.args.size pad e c.fill.new.self o (c.fill.ensures.after (λ y q. q))
-    ∙ ap₂ ◌++◌ c.put-items.ensures (one_zero_more (padding (length items)))
+    zeros_behind c.put_items.new.out old c.args.size pad e c.fill.new.self o (c.fill.ensures.after (λ y q. q))
+    ∙ ap₂ ◌++◌ c.put_items.ensures (one_zero_more (padding (length items)))
     ∙ sym (append_assoc items (replicate (padding (length items)) 0) (0 ∷ []))

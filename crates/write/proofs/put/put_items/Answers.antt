@@ -14,29 +14,29 @@ loop-i-init g c = put_none (g.L.Layout.meaning c.args.layout.now).items c.args.r
 
 pub unreachable-requires : goal.unreachable-requires
 unreachable-requires g c =
-    let h = le_from_nth (g.L.Layout.meaning c.args.layout.now).items c.loop-i.i c.in-default.ensures in
+    let h = le_from_nth (g.L.Layout.meaning c.args.layout.now).items c.loop-i.i c.in_default.ensures in
     omega (arith, c.requires.all)
 
-pub overflow-add-end : goal.overflow-add-end
-overflow-add-end g c =
+pub overflow_add-end : goal.overflow_add-end
+overflow_add-end g c =
     let m = g.L.Layout.meaning c.args.layout.now in
     let rs = c.args.rows.now in
     let r : Row = get_or rs c.loop-i.i absent in
     let q = nth_at rs c.loop-i.i absent (omega (arith, c.requires.enough)) in
-    let h : c.loop-i.at + c.octets-in.result ≤ length c.loop-i.out =
+    let h : c.loop-i.at + c.octets_in.result ≤ length c.loop-i.out =
     within_out m.items rs c.loop-i.i c.loop-i.at c.loop-i.out c.loop-i.invariant (meant c.in-Some.item) r c.in-Some.ensures q
-    c.octets-in.result c.octets-in.ensures.is (c.loop-i.auto.out ∙ c.requires.sized) in
+    c.octets_in.result c.octets_in.ensures.is (c.loop-i.auto.out ∙ c.requires.sized) in
     search rules
 
-pub slice-bounds-put-number-end : goal.slice-bounds-put-number-end
-slice-bounds-put-number-end g c =
+pub slice_bounds-put_number-end : goal.slice_bounds-put_number-end
+slice_bounds-put_number-end g c =
     let m = g.L.Layout.meaning c.args.layout.now in
     let rs = c.args.rows.now in
     let r : Row = get_or rs c.loop-i.i absent in
     let q = nth_at rs c.loop-i.i absent (omega (arith, c.requires.enough)) in
-    let h : c.loop-i.at + c.octets-in.result ≤ length c.loop-i.out =
+    let h : c.loop-i.at + c.octets_in.result ≤ length c.loop-i.out =
     within_out m.items rs c.loop-i.i c.loop-i.at c.loop-i.out c.loop-i.invariant (meant c.in-Some.item) r c.in-Some.ensures q
-    c.octets-in.result c.octets-in.ensures.is (c.loop-i.auto.out ∙ c.requires.sized) in
+    c.octets_in.result c.octets_in.ensures.is (c.loop-i.auto.out ∙ c.requires.sized) in
     search rules
 
 pub loop-i-preserved : goal.loop-i-preserved
@@ -45,20 +45,20 @@ loop-i-preserved g c =
     let rs = c.args.rows.now in
     let r : Row = get_or rs c.loop-i.i absent in
     let q = nth_at rs c.loop-i.i absent (omega (arith, c.requires.enough)) in
-    let h : c.loop-i.at + c.octets-in.result ≤ length c.loop-i.out =
+    let h : c.loop-i.at + c.octets_in.result ≤ length c.loop-i.out =
     within_out m.items rs c.loop-i.i c.loop-i.at c.loop-i.out c.loop-i.invariant (meant c.in-Some.item) r c.in-Some.ensures q
-    c.octets-in.result c.octets-in.ensures.is (c.loop-i.auto.out ∙ c.requires.sized) in
-    let n = c.octets-in.result in
+    c.octets_in.result c.octets_in.ensures.is (c.loop-i.auto.out ∙ c.requires.sized) in
+    let n = c.octets_in.result in
     let part = take (c.loop-i.at + n - c.loop-i.at) (drop c.loop-i.at c.loop-i.out) in
     let l : length part ≡ n =
     length-take-le (c.loop-i.at + n - c.loop-i.at) (drop c.loop-i.at c.loop-i.out) (omega (arith, length-drop c.loop-i.at c.loop-i.out))
     ∙ omega arith in
     let v : r.value < 256 ^ n =
-    subst (λ (k : ℕ). r.value < 256 ^ k) (sym c.octets-in.ensures.is)
+    subst (λ (k : ℕ). r.value < 256 ^ k) (sym c.octets_in.ensures.is)
     (value_fits m rs (omega (arith, c.requires.all, c.requires.enough)) (c.requires.fit ∙ c.requires.all) c.loop-i.i (meant c.in-Some.item) r c.in-Some.ensures q (item_may_exist c.in-Some.item)) in
-    put_more m.items rs c.loop-i.i c.loop-i.at c.loop-i.out c.loop-i.invariant (meant c.in-Some.item) r c.in-Some.ensures q n c.octets-in.ensures.is
-    c.put-number.new.octets _ (c.loop-i.auto.out ∙ c.requires.sized)
-    (c.put-number.ensures.exact (subst (λ (k : ℕ). r.value < 256 ^ k) (sym l) v) ∙ ap (λ (k : ℕ). octets_of k r.value) l)
+    put_more m.items rs c.loop-i.i c.loop-i.at c.loop-i.out c.loop-i.invariant (meant c.in-Some.item) r c.in-Some.ensures q n c.octets_in.ensures.is
+    c.put_number.new.octets _ (c.loop-i.auto.out ∙ c.requires.sized)
+    (c.put_number.ensures.exact (subst (λ (k : ℕ). r.value < 256 ^ k) (sym l) v) ∙ ap (λ (k : ℕ). octets_of k r.value) l)
 
 pub returns : goal.returns
 returns g c =

@@ -8,7 +8,7 @@ returns c =
       record {
         reply = c.answer-reply.result;
         answered = answered_line _ l _ _ _ _ _ (c.deref.ensures.value ∙ e) c.answer-reply.ensures;
-        text = c.in-ok-push-reply.ensures;
+        text = c.in_ok-push_reply.ensures;
       },
       c.clear.ensures.items,
     )

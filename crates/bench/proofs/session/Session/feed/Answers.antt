@@ -16,12 +16,12 @@ loop-line-preserved c =
     λ start n k.
     let f = c.loop-line.invariant start n k in
     feeding_more start _ _ _ _ f _ _ _ c.in-Some.ensures.0 c.in-Some.ensures.1
-    (c.in-ok-end-line.ensures f.begun f.keeps)
+    (c.in_ok-end_line.ensures f.begun f.keeps)
 
 pub returns : goal.returns
 returns c =
     λ start n k.
     let f = c.loop-line.invariant start n k in
     IfOk-weaker c.keep.result _ _
-    (λ _ a. fed start _ _ _ _ f _ c.in-default.ensures a.0 (a.1 f.begun f.keeps))
+    (λ _ a. fed start _ _ _ _ f _ c.in_default.ensures a.0 (a.1 f.begun f.keeps))
     c.keep.ensures

@@ -12,6 +12,6 @@ returns c =
     record {
       extras = ap (λ (l : List NamedItem). let x : Extras = record { masks = s.masks; added = l } in x)
           (changed row_meaning s.rows s.count c.args.k _ c.index-self-k.result no_named (called_too c.args.bits) c.requires (omega (arith, s.full, s.few))
-          (ap (λ (i : ItemMeaning). let r : NamedItem = record { name = (get_or s.rows c.args.k c.index-self-k.result).name; item = i } in r) c.with-bits-item.ensures));
+          (ap (λ (i : ItemMeaning). let r : NamedItem = record { name = (get_or s.rows c.args.k c.index-self-k.result).name; item = i } in r) c.with_bits-item.ensures));
       count = refl;
     }

@@ -14,70 +14,70 @@ use Rattle.extension.proofs.Judged.{judged_below, judged_25, judged_26, judged_2
 use Rattle.extension.proofs.Sound.{built_extends}
 use Rattle.extension.proofs.extension.Extension.judge.Goals as goal
 
-pub returns-in-err-lawful : goal.returns-in-err-lawful
-returns-in-err-lawful g c =
+pub returns-in_err-lawful : goal.returns-in_err-lawful
+returns-in_err-lawful g c =
     record {
       answer =
-          answer_at_break _ build_refusal c.from-residual.result (Below c.in-err-lawful.field-0.0) _ c.from-residual.ensures.1
-          (judged_below g.L.Layout.source (g.L.Layout.meaning c.args.self.now.below) (extras_of c.args.self.now.more) c.args.entry.now _ c.in-err-lawful.ensures.answer);
+          answer_at_break _ build_refusal c.from-residual.result (Below c.in_err-lawful.field-0.0) _ c.from-residual.ensures.1
+          (judged_below g.L.Layout.source (g.L.Layout.meaning c.args.self.now.below) (extras_of c.args.self.now.more) c.args.entry.now _ c.in_err-lawful.ensures.answer);
       extends = built_extends;
-      ready = made_at_break _ c.from-residual.result (Below c.in-err-lawful.field-0.0) c.from-residual.ensures.1;
+      ready = made_at_break _ c.from-residual.result (Below c.in_err-lawful.field-0.0) c.from-residual.ensures.1;
     }
 
-pub overflow-add-count : goal.overflow-add-count
-overflow-add-count g c =
-    omega (arith, c.count-low.ensures, (passes_from g.L.Layout.source (g.L.Layout.meaning c.args.self.now.below) (sym c.in-ok-lawful.ensures.answer)).few, c.args.self.now.more.few)
+pub overflow_add-count : goal.overflow_add-count
+overflow_add-count g c =
+    omega (arith, c.count-low.ensures, (passes_from g.L.Layout.source (g.L.Layout.meaning c.args.self.now.below) (sym c.in_ok-lawful.ensures.answer)).few, c.args.self.now.more.few)
 
 -- the number of all items, as the code counts it
 count_all_is : (m : Meaning) (a : Additions) (n : ℕ) → n ≡ length m.items → n + a.count ≡ count_all m (extras_of a)
 count_all_is m a n e = omega (arith, length_added a)
 
-pub returns-in-default : goal.returns-in-default
-returns-in-default g c =
+pub returns-in_default : goal.returns-in_default
+returns-in_default g c =
     let m = g.L.Layout.meaning c.args.self.now.below in
     let a = c.args.self.now.more in
     record {
       answer =
-          judged_25 g.L.Layout.source m (extras_of a) c.args.entry.now c.in-ok-lawful.ensures.answer _
-          (count_all_is m a c.count-low.result c.count-low.ensures) c.in-default.ensures;
+          judged_25 g.L.Layout.source m (extras_of a) c.args.entry.now c.in_ok-lawful.ensures.answer _
+          (count_all_is m a c.count-low.result c.count-low.ensures) c.in_default.ensures;
       extends = built_extends;
       ready = tt;
     }
 
-pub returns-then-not-has-space : goal.returns-then-not-has-space
-returns-then-not-has-space g c =
+pub returns-then-not-has_space : goal.returns-then-not-has_space
+returns-then-not-has_space g c =
     let m = g.L.Layout.meaning c.args.self.now.below in
     let a = c.args.self.now.more in
     record {
       answer =
-          judged_26 g.L.Layout.source m (extras_of a) c.args.entry.now c.in-ok-lawful.ensures.answer _
-          (count_all_is m a c.count-low.result c.count-low.ensures) _ c.in-Some.ensures a.count (sym (length_added a)) c.if-not-has-space.ensures;
+          judged_26 g.L.Layout.source m (extras_of a) c.args.entry.now c.in_ok-lawful.ensures.answer _
+          (count_all_is m a c.count-low.result c.count-low.ensures) _ c.in-Some.ensures a.count (sym (length_added a)) c.if-not-has_space.ensures;
       extends = built_extends;
       ready = tt;
     }
 
-pub returns-in-default-governor : goal.returns-in-default-governor
-returns-in-default-governor g c =
+pub returns-in_default-governor : goal.returns-in_default-governor
+returns-in_default-governor g c =
     let m = g.L.Layout.meaning c.args.self.now.below in
     let a = c.args.self.now.more in
     record {
       answer =
-          judged_27 g.L.Layout.source m (extras_of a) c.args.entry.now c.in-ok-lawful.ensures.answer _
-          (count_all_is m a c.count-low.result c.count-low.ensures) _ c.in-Some.ensures a.count (sym (length_added a)) c.if-not-has-space.ensures
-          (sym (ap (λ (o : Option Governor). may_hang_on m (extras_of a) (governor_meaning o)) c.in-default-governor.is));
+          judged_27 g.L.Layout.source m (extras_of a) c.args.entry.now c.in_ok-lawful.ensures.answer _
+          (count_all_is m a c.count-low.result c.count-low.ensures) _ c.in-Some.ensures a.count (sym (length_added a)) c.if-not-has_space.ensures
+          (sym (ap (λ (o : Option Governor). may_hang_on m (extras_of a) (governor_meaning o)) c.in_default-governor.is));
       extends = built_extends;
       ready = tt;
     }
 
-pub returns-then-not-may-hang-on : goal.returns-then-not-may-hang-on
-returns-then-not-may-hang-on g c =
+pub returns-then-not-may_hang_on : goal.returns-then-not-may_hang_on
+returns-then-not-may_hang_on g c =
     let m = g.L.Layout.meaning c.args.self.now.below in
     let a = c.args.self.now.more in
     record {
       answer =
-          judged_27 g.L.Layout.source m (extras_of a) c.args.entry.now c.in-ok-lawful.ensures.answer _
-          (count_all_is m a c.count-low.result c.count-low.ensures) _ c.in-Some.ensures a.count (sym (length_added a)) c.if-not-has-space.ensures
-          (c.if-not-may-hang-on.ensures ∙ sym (ap (λ (o : Option Governor). may_hang_on m (extras_of a) (governor_meaning o)) c.in-Some-governor.is));
+          judged_27 g.L.Layout.source m (extras_of a) c.args.entry.now c.in_ok-lawful.ensures.answer _
+          (count_all_is m a c.count-low.result c.count-low.ensures) _ c.in-Some.ensures a.count (sym (length_added a)) c.if-not-has_space.ensures
+          (c.if-not-may_hang_on.ensures ∙ sym (ap (λ (o : Option Governor). may_hang_on m (extras_of a) (governor_meaning o)) c.in-Some-governor.is));
       extends = built_extends;
       ready = tt;
     }
@@ -87,13 +87,13 @@ returns g c =
     let m = g.L.Layout.meaning c.args.self.now.below in
     let a = c.args.self.now.more in
     let h : true ≡ may_hang_on m (extras_of a) (meant c.in-Some.item).governor =
-    c.if-not-may-hang-on.ensures ∙ sym (ap (λ (o : Option Governor). may_hang_on m (extras_of a) (governor_meaning o)) c.in-Some-governor.is) in
+    c.if-not-may_hang_on.ensures ∙ sym (ap (λ (o : Option Governor). may_hang_on m (extras_of a) (governor_meaning o)) c.in-Some-governor.is) in
     record {
       answer =
-          judged_yes g.L.Layout.source m (extras_of a) c.args.entry.now c.in-ok-lawful.ensures.answer _
-          (count_all_is m a c.count-low.result c.count-low.ensures) (meant c.in-Some.item) c.in-Some.ensures a.count (sym (length_added a)) c.if-not-has-space.ensures h;
+          judged_yes g.L.Layout.source m (extras_of a) c.args.entry.now c.in_ok-lawful.ensures.answer _
+          (count_all_is m a c.count-low.result c.count-low.ensures) (meant c.in-Some.item) c.in-Some.ensures a.count (sym (length_added a)) c.if-not-has_space.ensures h;
       extends = built_extends;
       ready =
-          judged_ready g.L.Layout.source m (extras_of a) c.args.entry.now c.in-ok-lawful.ensures.answer _
-          (count_all_is m a c.count-low.result c.count-low.ensures) (meant c.in-Some.item) c.in-Some.ensures a.count (sym (length_added a)) c.if-not-has-space.ensures h;
+          judged_ready g.L.Layout.source m (extras_of a) c.args.entry.now c.in_ok-lawful.ensures.answer _
+          (count_all_is m a c.count-low.result c.count-low.ensures) (meant c.in-Some.item) c.in-Some.ensures a.count (sym (length_added a)) c.if-not-has_space.ensures h;
     }

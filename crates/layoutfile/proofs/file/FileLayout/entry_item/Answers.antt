@@ -10,11 +10,11 @@ returns-then-i-self c =
     let os = c.args.self.now.octets.now in
     sym (nth_past (file_meaning os).items c.args.i (omega (arith, c.args.self.now.counted)))
 
-pub entry-at-requires : goal.entry-at-requires
-entry-at-requires c = entry_within c.args.self.now.octets.now c.args.i (omega (arith, length_meaning c.args.self.now.octets.now, c.args.self.now.counted))
+pub entry_at-requires : goal.entry_at-requires
+entry_at-requires c = entry_within c.args.self.now.octets.now c.args.i (omega (arith, length_meaning c.args.self.now.octets.now, c.args.self.now.counted))
 
 pub returns : goal.returns
 returns c =
     c.accept.ensures
-    ∙ ap entry_accepted c.entry-at.ensures
+    ∙ ap entry_accepted c.entry_at.ensures
     ∙ item_found c.args.self.now.octets.now c.args.i (omega (arith, length_meaning c.args.self.now.octets.now, c.args.self.now.counted))

@@ -14,15 +14,15 @@ returns-then-i-self c =
       each = length_names os;
     }
 
-pub entry-at-requires : goal.entry-at-requires
-entry-at-requires c = entry_within c.args.self.now.octets.now c.args.i (omega (arith, length_meaning c.args.self.now.octets.now, c.args.self.now.counted))
+pub entry_at-requires : goal.entry_at-requires
+entry_at-requires c = entry_within c.args.self.now.octets.now c.args.i (omega (arith, length_meaning c.args.self.now.octets.now, c.args.self.now.counted))
 
 pub returns : goal.returns
 returns c =
     let os = c.args.self.now.octets.now in
     record {
       value =
-          ap (λ (e : RawEntry). e.name) c.entry-at.ensures
+          ap (λ (e : RawEntry). e.name) c.entry_at.ensures
           ∙ name_found os c.args.i (omega (arith, length_meaning c.args.self.now.octets.now, c.args.self.now.counted)) _;
       past = λ h. absurd (let b : ⊥ = omega (arith, h, c.args.self.now.counted) in b);
       each = length_names os;

@@ -8,7 +8,7 @@ bounds-octets-5 c = omega (arith, long c.args.octets.now (passes_from c.args.oct
 pub bounds-octets-6 : goal.bounds-octets-6
 bounds-octets-6 c = omega (arith, long c.args.octets.now (passes_from c.args.octets.now c.requires))
 
-pub invariant-of-result : goal.invariant-of-result
-invariant-of-result c =
+pub invariant_of-result : goal.invariant_of-result
+invariant_of-result c =
     let os = c.args.octets.now in
     (type_is os c.requires, (half_octet os (passes_from os c.requires), (count_is os c.requires ∙ length_meaning os, tt)))
