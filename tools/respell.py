@@ -79,6 +79,7 @@ big-endian-more big_endian_more
 big-endian-octets-of big_endian-octets_of
 big-endian-push big_endian_push
 big-endian-small big_endian_small
+big-endian-two big_endian_two
 bind-gives bind_gives
 bind-refused bind_refused
 bit-and bit-bit_and
@@ -96,8 +97,11 @@ built-extends built_extends
 by-law by_law
 called-too called_too
 cases-at-break cases_at_break
+chain-asks chain_asks
+chain-before chain_before
 chain-ends chain_ends
 chain-from chain_from
+chain-goes-on chain_goes_on
 chain-is-laid chain_is_laid
 chain-laid chain_laid
 chain-of chain_of
@@ -195,6 +199,7 @@ flag-past flag_past
 flag-stands flag_stands
 flags-right flags_right
 found-by found_by
+found-by-walk found_by_walk
 frame-again frame_again
 frame-cut frame_cut
 frame-longer frame_longer
@@ -208,8 +213,10 @@ getD-from-nth get_or-from_nth
 getD-last get_or-last
 getD-map-from-nth get_or-map_from_nth
 given-by-first-octets given_by_first_octets
+given-by-walk given_by_walk
 gives-inj gives_inj
 going-ends going_ends
+going-fits going_fits
 going-starts going_starts
 going-stops going_stops
 good-cut good_cut
@@ -236,6 +243,7 @@ header-fits header_fits
 header-fits-made header_fits_made
 header-meaning header_meaning
 header-size header_size
+headers-inside headers_inside
 hex-digit hex_digit
 hex-pairs hex_pairs
 hook-named hook_named
@@ -245,6 +253,7 @@ how-many-push how_many_push
 if-made if_made
 in-limit in_limit
 in-mask in_mask
+in-packet in_packet
 inner-behind inner_behind
 inner-packet inner_packet
 is-bits is_bits
@@ -286,7 +295,9 @@ keeps-trans keeps_trans
 kind-accepted kind_accepted
 kind-meaning kind_meaning
 laid-before laid_before
+laid-chain laid_chain
 laid-is-chain laid_is_chain
+laid-turn laid_turn
 last-answers last_answers
 last-octet last_octet
 lawful-any lawful_any
@@ -420,8 +431,10 @@ ok-text ok_text
 one-octet one_octet
 one-zero-more one_zero_more
 only-after only_after
+only-after-more only_after-more
 only-container only_container
 only-cut only_cut
+only-has only_has
 open-line open_line
 open-no-frame open_no_frame
 open-no-packet open_no_packet
@@ -493,6 +506,7 @@ refused-25 refused_25
 refused-3 refused_3
 refused-at-break refused_at_break
 refused-by-first-octets refused_by_first_octets
+refused-by-walk refused_by_walk
 refused-inj refused_inj
 reply-text reply_text
 reply-to-read reply_to_read
@@ -514,6 +528,7 @@ shown-value shown_value
 size-answer size_answer
 size-by-octets size_by_octets
 size-gives size_gives
+size-refused size_refused
 some-octet some_octet
 sound-add sound_add
 sound-added sound_added
@@ -561,6 +576,7 @@ value-is value_is
 value-small value_small
 walk-is-chain walk_is_chain
 walk-on walk_on
+walk-on-before walk_on-before
 walked-of walked_of
 well-sized well_sized
 whole-frame whole_frame

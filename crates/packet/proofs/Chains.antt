@@ -16,21 +16,21 @@ unfolding chain_from
 chain_ends turns t p o z = rw (eq-eqb t 0 z, chain_from)
 
 module _ (turns t p : ℕ) (o : List ℕ) (some : t ≡ 0 → ⊥) where
-  chain-asks
+  chain_asks
       : chain_from (suc turns) t p o
       ≡ ask (header_fits o) (no_packet 9 p)
       (bind (chain_from turns (next_type o) (p + header_size o) (behind o)) (λ c. gives (before (header_at t p o) c)))
   unfolding chain_from
-  chain-asks = rw (ne_eqb t 0 some, chain_from)
+  chain_asks = rw (ne_eqb t 0 some, chain_from)
 
   pub chain_stops : header_fits o ≡ false → chain_from (suc turns) t p o ≡ refused (no_packet 9 p)
-  chain_stops f = chain-asks ∙ ask_no (header_fits o) (no_packet 9 p) _ f
+  chain_stops f = chain_asks ∙ ask_no (header_fits o) (no_packet 9 p) _ f
 
-  pub chain-goes-on
+  pub chain_goes_on
       : header_fits o ≡ true
       → chain_from (suc turns) t p o
       ≡ bind (chain_from turns (next_type o) (p + header_size o) (behind o)) (λ c. gives (before (header_at t p o) c))
-  chain-goes-on f = chain-asks ∙ ask_yes (header_fits o) (no_packet 9 p) _ f
+  chain_goes_on f = chain_asks ∙ ask_yes (header_fits o) (no_packet 9 p) _ f
 
 -- headers in place at the front of the octets o, which stand at p, and where they end
 pub record Laid (t p : ℕ) (o : List ℕ) (c : Chain) : Type 0 where
@@ -63,56 +63,56 @@ module _ (t p : ℕ) (o : List ℕ) (c : Chain) (some : t ≡ 0 → ⊥) (fits :
       }
 
 -- where the walk accepts, its headers are laid out in the octets
-laid-turn
+laid_turn
     : (turns t p : ℕ) (o : List ℕ) (c : Chain)
     → ((d : Chain) → chain_from turns (next_type o) (p + header_size o) (behind o) ≡ gives d
     → Laid (next_type o) (p + header_size o) (behind o) d)
     → (t ≡ 0) ⊎ (t ≡ 0 → ⊥) → (header_fits o ≡ true) ⊎ (header_fits o ≡ false)
     → chain_from (suc turns) t p o ≡ gives c → Laid t p o c
-laid-turn turns t p o c more (inl z) f e =
+laid_turn turns t p o c more (inl z) f e =
     subst (Laid t p o) (gives_inj (sym (chain_ends turns t p o z) ∙ e))
     (record { first = z; places = tt; back = o; octets = refl; to = omega arith })
-laid-turn turns t p o c more (inr some) (inl fits) e =
-    let b = bound (chain_from turns (next_type o) (p + header_size o) (behind o)) _ c (sym (chain-goes-on turns t p o some fits) ∙ e) in
+laid_turn turns t p o c more (inr some) (inl fits) e =
+    let b = bound (chain_from turns (next_type o) (p + header_size o) (behind o)) _ c (sym (chain_goes_on turns t p o some fits) ∙ e) in
     subst (Laid t p o) (gives_inj b.2) (laid_before t p o b.0 some fits (more b.0 b.1))
-laid-turn turns t p o c more (inr some) (inr f) e = never (sym e ∙ chain_stops turns t p o some f)
+laid_turn turns t p o c more (inr some) (inr f) e = never (sym e ∙ chain_stops turns t p o some f)
 
 chain_laid : (turns t p : ℕ) (o : List ℕ) (c : Chain) → chain_from turns t p o ≡ gives c → Laid t p o c
 unfolding chain_from
 chain_laid zero t p o c e = never (sym e)
 chain_laid (suc turns) t p o c e =
     let more = chain_laid turns (next_type o) (p + header_size o) (behind o) in
-    laid-turn turns t p o c more (cases_eq t 0) (cases_Bool (header_fits o)) e
+    laid_turn turns t p o c more (cases_eq t 0) (cases_Bool (header_fits o)) e
 
 -- one header more in front of what the walk meets
-chain-before
+chain_before
     : (turns p t : ℕ) (h : HeaderMeaning) (r : List ℕ) (c : Chain)
     → (h.type ≡ 0 → ⊥) → (length h.content + 2) % 4 ≡ 0 → h.place ≡ p
     → chain_from turns t (p + 4 * units h) r ≡ gives c
     → chain_from (suc turns) h.type p (units h ∷ (h.content ++ t ∷ r)) ≡ gives (before h c)
-chain-before turns p t h r c some quarter at rest =
+chain_before turns p t h r c some quarter at rest =
     let n = units h in
     let o = n ∷ (h.content ++ t ∷ r) in
     let whole : 4 * n ≡ length h.content + 2 = omega arith in
     let type = ap (λ m. chain_from turns m (p + 4 * n) (behind o)) (next_type_made n t h.content r whole) in
     let octets = ap (chain_from turns t (p + 4 * n)) (behind_made n t h.content r whole) in
-    chain-goes-on turns h.type p o some (header_fits_made n t h.content r whole)
+    chain_goes_on turns h.type p o some (header_fits_made n t h.content r whole)
     ∙ bind_gives (chain_from turns (next_type o) (p + 4 * n) (behind o)) _ c (type ∙ octets ∙ rest)
     ∙ ap (λ l. gives (before (record { type = h.type; place = p; content = l }) c)) (header_content_made n t h.content r whole)
     ∙ ap (λ q. gives (before (record { type = h.type; place = q; content = h.content }) c)) (sym at)
 
 -- headers that are laid out are what the walk meets
-laid-chain
+laid_chain
     : (turns p : ℕ) (hs : List HeaderMeaning) (back : List ℕ) → length (laid_out hs) ≤ turns → InPlace p hs
     → chain_from (suc turns) (announced hs) p (laid_out hs ++ back) ≡ gives (record { headers = hs; end = p + length (laid_out hs) })
-laid-chain turns p [] back few i = chain_ends turns 0 p back refl ∙ ap (λ e. gives (record { headers = []; end = e })) (omega arith)
-laid-chain zero p (h ∷ hs) back few i = absurd (let b : ⊥ = omega arith in b)
-laid-chain (suc turns) p (h ∷ hs) back few i =
+laid_chain turns p [] back few i = chain_ends turns 0 p back refl ∙ ap (λ e. gives (record { headers = []; end = e })) (omega arith)
+laid_chain zero p (h ∷ hs) back few i = absurd (let b : ⊥ = omega arith in b)
+laid_chain (suc turns) p (h ∷ hs) back few i =
     let long = length-append h.content (announced hs ∷ laid_out hs) in
     let to : p + 4 * units h + length (laid_out hs) ≡ p + length (laid_out (h ∷ hs)) = omega (arith, i.1) in
-    let rest = laid-chain turns (p + 4 * units h) hs back (omega arith) i.3 in
+    let rest = laid_chain turns (p + 4 * units h) hs back (omega arith) i.3 in
     ap (λ l. chain_from (suc (suc turns)) h.type p (units h ∷ l)) (append_assoc h.content (announced hs ∷ laid_out hs) back)
-    ∙ chain-before (suc turns) p (announced hs) h (laid_out hs ++ back) _ i.0 i.1 i.2 rest
+    ∙ chain_before (suc turns) p (announced hs) h (laid_out hs ++ back) _ i.0 i.1 i.2 rest
     ∙ ap (λ e. gives (record { headers = h ∷ hs; end = e })) to
 
 -- a packet's chain is what is laid out from octet 12 on
@@ -144,7 +144,7 @@ is_chain_gives k c most i =
     let few : length (laid_out c.headers) ≤ 9215 = omega (arith, i.inside.1, l.to) in
     ap (λ t. chain_from 9216 t 12 (drop 12 k)) l.first
     ∙ ap (chain_from 9216 (announced c.headers) 12) l.octets
-    ∙ laid-chain 9215 12 c.headers l.back few l.places
+    ∙ laid_chain 9215 12 c.headers l.back few l.places
     ∙ ap (λ e. gives (record { headers = c.headers; end = e })) (sym l.to)
 
 pub walk_is_chain : WalkIsChain

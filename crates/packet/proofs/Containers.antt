@@ -15,13 +15,13 @@ use Rattle.packet.specs.Walks.{nothing, Walk, walk_on, walk_of, found_by}
 use Rattle.packet.proofs.Headers.{behind_made}
 use Rattle.packet.proofs.Chains.{chain_is_laid, walk_is_chain}
 
-found-by-walk
+found_by_walk
     : (k : List ℕ) (chain : Answer Chain)
     → bind (walk_on nothing k chain) found_by
     ≡ bind chain (λ c. bind (only_container c.headers c.end) (λ h. gives (located_at k c.end h)))
 unfolding bind walk_on
-found-by-walk k (refused r) = refl
-found-by-walk k (gives c) = refl
+found_by_walk k (refused r) = refl
+found_by_walk k (gives c) = refl
 
 -- Questions 6 to 10 as the code puts them: the first octets, the walk, the one container.
 -- `take (n - 0) b` is `&b[0..n]` as the check reads it.
@@ -32,7 +32,7 @@ module _ (b : List ℕ) (n : ℕ) (least : 12 ≤ n) (most : n ≤ 9216) (held :
       let k = take (n - 0) b in
       ask_yes (count_right b n) (no_packet 5 n) (located (take n b)) (grind (arith, nat_tests))
       ∙ ap (λ m. located (take m b)) (sym (sub-zero n))
-      ∙ ap (λ a. bind (first_octets k) (λ _. a)) (sym (found-by-walk k (chain_of k)))
+      ∙ ap (λ a. bind (first_octets k) (λ _. a)) (sym (found_by_walk k (chain_of k)))
 
   pub refused_by_first_octets : (r : Refusal) → refused r ≡ first_octets (take (n - 0) b) → container b n ≡ refused r
   refused_by_first_octets r e = container_by_walk ∙ bind_refused (first_octets (take (n - 0) b)) _ r (sym e)
@@ -40,13 +40,13 @@ module _ (b : List ℕ) (n : ℕ) (least : 12 ≤ n) (most : n ≤ 9216) (held :
   given_by_first_octets : gives tt ≡ first_octets (take (n - 0) b) → container b n ≡ bind (walk_of (take (n - 0) b)) found_by
   given_by_first_octets e = container_by_walk ∙ bind_gives (first_octets (take (n - 0) b)) _ tt (sym e)
 
-  pub refused-by-walk
+  pub refused_by_walk
       : (r : Refusal) → gives tt ≡ first_octets (take (n - 0) b) → refused r ≡ walk_of (take (n - 0) b) → container b n ≡ refused r
-  refused-by-walk r first e = given_by_first_octets first ∙ bind_refused (walk_of (take (n - 0) b)) found_by r (sym e)
+  refused_by_walk r first e = given_by_first_octets first ∙ bind_refused (walk_of (take (n - 0) b)) found_by r (sym e)
 
-  pub given-by-walk
+  pub given_by_walk
       : (w : Walk) → gives tt ≡ first_octets (take (n - 0) b) → gives w ≡ walk_of (take (n - 0) b) → container b n ≡ found_by w
-  given-by-walk w first e = given_by_first_octets first ∙ bind_gives (walk_of (take (n - 0) b)) found_by w (sym e)
+  given_by_walk w first e = given_by_first_octets first ∙ bind_gives (walk_of (take (n - 0) b)) found_by w (sym e)
 
 -- that the answers to questions 5 to 10 are yes, with the chain and the container that they find
 pub record Accepted (b : List ℕ) (n : ℕ) (w : Located) : Type 0 where
@@ -121,11 +121,11 @@ module _ (k : List ℕ) (p t : ℕ) (h : HeaderMeaning) (r : List ℕ) (at : h.p
   drop_first =
       sym (drop-drop (4 * units h) p k) ∙ ap (drop (4 * units h)) apart ∙ behind_made (units h) t h.content r whole
 
-headers-inside
+headers_inside
     : (k : List ℕ) (p e : ℕ) (hs : List HeaderMeaning) (back : List ℕ)
     → 12 ≤ p → drop p k ≡ laid_out hs ++ back → InPlace p hs → e ≡ p + length (laid_out hs) → All (HeaderInside k e) hs
-headers-inside k p e [] back far o i to = tt
-headers-inside k p e (h ∷ hs) back far o i to =
+headers_inside k p e [] back far o i to = tt
+headers_inside k p e (h ∷ hs) back far o i to =
     let r = laid_out hs ++ back in
     let at = i.2 in
     let whole : 4 * units h ≡ length h.content + 2 = omega (arith, i.1) in
@@ -138,7 +138,7 @@ headers-inside k p e (h ∷ hs) back far o i to =
       content = content_first k p (announced hs) h r at whole apart;
     } in
     let next = drop_first k p (announced hs) h r at whole apart in
-    (first, headers-inside k (p + 4 * units h) e hs back (omega arith) next i.3 (omega arith))
+    (first, headers_inside k (p + 4 * units h) e hs back (omega arith) next i.3 (omega arith))
 
 -- what holds of each header holds of the only container
 no_second_is : (h g : HeaderMeaning) (hs : List HeaderMeaning) → no_second h hs ≡ gives g → h ≡ g
@@ -149,14 +149,14 @@ no_second_is h g (k ∷ ks) q =
       | false ↦ λ q. no_second_is h g ks q
     ] q
 
-only-has
+only_has
     : (P : HeaderMeaning → Type 0) (hs : List HeaderMeaning) (e : ℕ) (g : HeaderMeaning)
     → All P hs → only_container hs e ≡ gives g → P g
-only-has P [] e g all q = never (sym q)
-only-has P (h ∷ hs) e g all q =
+only_has P [] e g all q = never (sym q)
+only_has P (h ∷ hs) e g all q =
     elim (is_container h) as (λ b. cond b (no_second h hs) (only_container hs e) ≡ gives g → P g) [
       | true ↦ λ q. subst P (no_second_is h g hs q) all.0
-      | false ↦ λ q. only-has P hs e g all.1 q
+      | false ↦ λ q. only_has P hs e g all.1 q
     ] q
 
 count_within : (b : List ℕ) (n : ℕ) → count_right b n ≡ true → (12 ≤ n) × (n ≤ 9216) × (n ≤ length b)
@@ -172,8 +172,8 @@ container_inside b n w e =
     let long = length-take-le n b within.2 in
     let i = (walk_is_chain k (omega arith) (omega arith) c).0 a.walked in
     let l = chain_is_laid k c i in
-    let all = headers-inside k 12 c.end c.headers l.back (omega arith) l.octets l.places l.to in
-    let h = only-has (HeaderInside k c.end) c.headers c.end a.header all a.only in
+    let all = headers_inside k 12 c.end c.headers l.back (omega arith) l.octets l.places l.to in
+    let h = only_has (HeaderInside k c.end) c.headers c.end a.header all a.only in
     subst (Inside b n) (sym a.is)
     (record {
       least = within.0;

@@ -22,9 +22,9 @@ size_gives o p n e = by (header_fits o) e
     by true e = (refl, gives_inj e)
     by false e = never e
 
-pub size-refused
+pub size_refused
     : (o : List ℕ) (p : ℕ) (r : Refusal) → refused r ≡ size_answer o p → (header_fits o ≡ false) × (r ≡ no_packet 9 p)
-size-refused o p r e = by (header_fits o) e
+size_refused o p r e = by (header_fits o) e
   where
     by : (b : Bool) → refused r ≡ cond b (gives (header_size o)) (refused (no_packet 9 p)) → (b ≡ false) × (r ≡ no_packet 9 p)
     by true e = never (sym e)

@@ -14,9 +14,9 @@ and-bit v k =
     let low : bit_and v m % m ≡ bit_and (v % m) 0 = and_mod v m k ∙ ap (bit_and (v % m)) (mod_self m) in
     omega (arith, shr_split (bit_and v m) k, ap (λ n. n * m) high, low, and_le_r (v % m) 0)
 
-pub big-endian-two
+pub big_endian_two
     : (k : List ℕ) (i : ℕ) → i + 1 < length k → big_endian (take 2 (drop i k)) ≡ get_or k i 0 * 256 + get_or k (i + 1) 0
-big-endian-two k i h =
+big_endian_two k i h =
     let first = drop_more k i 0 (omega arith) in
     let second = ap (λ l. get_or k i 0 ∷ l) (drop_more k (i + 1) 0 h) in
     ap (λ l. big_endian (take 2 l)) (first ∙ second) ∙ omega arith

@@ -7,31 +7,31 @@ use Rattle.base.proofs.Asking.{bind_gives, bind_refused}
 use Rattle.packet.specs.Chains.{HeaderMeaning, Chain, header_size, behind, header_at, size_answer, before, chain_from, chain_of}
 use Rattle.packet.specs.Containers.{is_container, no_second, only_container}
 use Rattle.packet.specs.Walks.{Seen, nothing, one, second, seen_after, only_after, walk_end, walk_on, walk_of}
-use Rattle.packet.proofs.Headers.{fits_size, size_gives, size-refused}
-use Rattle.packet.proofs.Chains.{chain_ends, chain_stops, chain-goes-on}
+use Rattle.packet.proofs.Headers.{fits_size, size_gives, size_refused}
+use Rattle.packet.proofs.Chains.{chain_ends, chain_stops, chain_goes_on}
 
-only-after-more
+only_after-more
     : (s : Seen) (h : HeaderMeaning) (hs : List HeaderMeaning) (e : ℕ)
     → only_after s (h ∷ hs) e ≡ only_after (seen_after s h) hs e
-only-after-more nothing h hs e = by (is_container h)
+only_after-more nothing h hs e = by (is_container h)
   where
     by : (b : Bool) → cond b (no_second h hs) (only_container hs e) ≡ only_after (cond b (one h) nothing) hs e
     by true = refl
     by false = refl
-only-after-more (one g) h hs e = by (is_container h)
+only_after-more (one g) h hs e = by (is_container h)
   where
     by : (b : Bool) → cond b (refused (no_packet 10 h.place)) (no_second g hs) ≡ only_after (cond b (second h.place) (one g)) hs e
     by true = refl
     by false = refl
-only-after-more (second p) h hs e = refl
+only_after-more (second p) h hs e = refl
 
-walk-on-before
+walk_on-before
     : (s : Seen) (k : List ℕ) (h : HeaderMeaning) (rest : Answer Chain)
     → walk_on s k (bind rest (λ c. gives (before h c))) ≡ walk_on (seen_after s h) k rest
 unfolding bind walk_on
-walk-on-before s k h (refused r) = refl
-walk-on-before s k h (gives c) =
-    ap (λ a. gives (record { only = a; end = c.end; inner = drop c.end k })) (only-after-more s h c.headers c.end)
+walk_on-before s k h (refused r) = refl
+walk_on-before s k h (gives c) =
+    ap (λ a. gives (record { only = a; end = c.end; inner = drop c.end k })) (only_after-more s h c.headers c.end)
 
 -- A walk over the packet k that has come to the place p with s seen: o are the octets from there on, t is the type of
 -- the next header, and turns enough are left.
@@ -55,16 +55,16 @@ module _ (k : List ℕ) (t p : ℕ) (o : List ℕ) (s : Seen) (g : Going k t p o
   pub going_stops : (r : Refusal) → (t ≡ 0 → ⊥) → refused r ≡ size_answer o p → walk_of k ≡ refused r
   unfolding walk_on
   going_stops r some asked =
-      let a = size-refused o p r asked in
+      let a = size_refused o p r asked in
       g.same
       ∙ bind_refused (chain_from (suc g.turns) t p o) _ (no_packet 9 p) (chain_stops g.turns t p o some a.0)
       ∙ ap refused (sym a.1)
 
   -- a yes to question 9: n octets are there
-  pub going-fits
+  pub going_fits
       : (n : ℕ) → gives n ≡ size_answer o p
       → (4 ≤ n) × (n ≤ length o) × (length o ≡ length k - p) × (length (behind o) + n ≡ length o)
-  going-fits n asked =
+  going_fits n asked =
       let a = size_gives o p n asked in
       let f = fits_size o a.0 in
       let e = a.1 in
@@ -78,10 +78,10 @@ module _ (k : List ℕ) (t p : ℕ) (o : List ℕ) (s : Seen) (g : Going k t p o
   Going-more n back now some asked rest seen =
       let a = size_gives o p n asked in
       let size = a.1 in
-      let f = going-fits n asked in
+      let f = going_fits n asked in
       let long = ap length rest in
       let turns : g.turns ≡ suc (g.turns - 1) = omega (arith, g.few) in
-      let on = ap (walk_on s k) (chain-goes-on g.turns t p o some a.0) ∙ walk-on-before s k (header_at t p o) _ in
+      let on = ap (walk_on s k) (chain_goes_on g.turns t p o some a.0) ∙ walk_on-before s k (header_at t p o) _ in
       let same = g.same in
       record {
         within = omega (arith, g.within);

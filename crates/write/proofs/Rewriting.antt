@@ -215,17 +215,17 @@ plain_rewrites o m made law buffer n w octets opened plainly teid inner room id 
     let t : List ℕ = w.parts.tail in
     let p : ℕ = w.located.place + 1 in
     let parts = opened_parts m buffer n w opened in
-    let in-packet : Inside buffer n w.located = container_inside buffer n w.located parts.0 in
+    let in_packet : Inside buffer n w.located = container_inside buffer n w.located parts.0 in
     let cut = read_pieces m.items p f w.parts (earlier o m law) parts.1 in
     let packet : Octets (take n buffer) = octets_take n buffer octets in
     let count : get_or (take n buffer) w.located.place 0 < 256 = octets_at (take n buffer) packet w.located.place in
-    let bound : length f ≤ 1018 = omega (arith, in-packet.count) in
-    let frame : Octets f = subst Octets (sym in-packet.frame) (octets_take (length f) _ (octets_drop p _ packet)) in
+    let bound : length f ≤ 1018 = omega (arith, in_packet.count) in
+    let frame : Octets f = subst Octets (sym in_packet.frame) (octets_take (length f) _ (octets_drop p _ packet)) in
     let pieces : Octets (joined cs) = octets_front (joined cs) t (subst Octets cut.0 frame) in
     let a = and_parts (all_clear m.items cs) _ plainly in
     let b = and_parts (leb (length t) 3) _ a.1 in
     let type : get_or (joined cs ++ t) 0 0 / 16 ≡ m.pdu_type = ap (λ (x : List ℕ). get_or x 0 0 / 16) (sym cut.0) ∙ opened_type m buffer n w opened in
-    let whole : (length (joined cs ++ t) + 2) % 4 ≡ 0 = ap (λ (x : List ℕ). (length x + 2) % 4) (sym cut.0) ∙ in-packet.whole in
+    let whole : (length (joined cs ++ t) + 2) % 4 ≡ 0 = ap (λ (x : List ℕ). (length x + 2) % 4) (sym cut.0) ∙ in_packet.whole in
     let again = frame_again o m made law cs cut.1 pieces a.0 p t (leb-true (length t) 3 b.0) b.1 whole in
     let long = length_packet teid f inner in
     write_gives o m (shown_rows m w) teid inner room f law

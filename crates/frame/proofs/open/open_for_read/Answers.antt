@@ -19,7 +19,7 @@ returns-in_err-check_layout g c =
           (read_no_layout g.L.Layout.source (g.L.Layout.meaning c.args.layout.now) c.args.row_count c.args.buffer.now c.args.count
           _ c.in_err-check_layout.ensures);
       only_cut = reading_is_only_cut;
-      rows-show = rows_show_items;
+      rows_show = rows_show_items;
       worked = worked_frames;
     }
 
@@ -30,7 +30,7 @@ returns-then-count-row_count g c =
           read_no_rows g.L.Layout.source (g.L.Layout.meaning c.args.layout.now) c.args.row_count c.args.buffer.now c.args.count
           c.in_ok-check_layout.ensures (omega arith);
       only_cut = reading_is_only_cut;
-      rows-show = rows_show_items;
+      rows_show = rows_show_items;
       worked = worked_frames;
     }
 
@@ -46,7 +46,7 @@ returns-in_err-open g c =
           (read_no_packet g.L.Layout.source (g.L.Layout.meaning c.args.layout.now) c.args.row_count c.args.buffer.now c.args.count
           c.in_ok-check_layout.ensures (omega arith) _ c.in_err-open.ensures);
       only_cut = reading_is_only_cut;
-      rows-show = rows_show_items;
+      rows_show = rows_show_items;
       worked = worked_frames;
     }
 
@@ -67,6 +67,6 @@ returns g c =
         table = a.table;
       };
       only_cut = reading_is_only_cut;
-      rows-show = rows_show_items;
+      rows_show = rows_show_items;
       worked = worked_frames;
     }

@@ -4,7 +4,7 @@ use Rattle.std.proofs.lemmas.Bool.Decides.{nat_tests}
 use Rattle.base.specs.Answers.{no_packet}
 use Rattle.base.proofs.Asking.{ask_yes, ask_no}
 use Rattle.packet.specs.Containers.{flags_right, message_type_right, length_right}
-use Rattle.packet.proofs.Numbers.{and-bit, big-endian-two}
+use Rattle.packet.proofs.Numbers.{and-bit, big_endian_two}
 use Rattle.packet.proofs.container.check_first_octets.Goals as goal
 use Rattle.packet.proofs.container.check_first_octets.Goals.{then-flags-ne-GTP-1-via-then-flags-ne-GTP-1}
 use Rattle.packet.proofs.container.check_first_octets.Goals.{then-flags-ne-GTP-1-via-else-flags-ne-GTP-1+then-flags-eq0}
@@ -32,7 +32,7 @@ pub returns-then-from-packet : goal.returns-then-from-packet
 returns-then-from-packet c =
     let k = c.args.packet.now in
     let e = and-bit (get_or k 0 0) 2 in
-    let n = big-endian-two k 2 (omega arith) in
+    let n = big_endian_two k 2 (omega arith) in
     let flags : flags_right k ≡ true = grind (arith, nat_tests) in
     let type : message_type_right k ≡ true = grind (arith, nat_tests) in
     let stated : length_right k ≡ false = grind (arith, nat_tests) in
@@ -45,7 +45,7 @@ pub returns : goal.returns
 returns c =
     let k = c.args.packet.now in
     let e = and-bit (get_or k 0 0) 2 in
-    let n = big-endian-two k 2 (omega arith) in
+    let n = big_endian_two k 2 (omega arith) in
     let flags : flags_right k ≡ true = grind (arith, nat_tests) in
     let type : message_type_right k ≡ true = grind (arith, nat_tests) in
     let stated : length_right k ≡ true = grind (arith, nat_tests) in

@@ -6,7 +6,7 @@ use Rattle.packet.specs.Faults.{packet_refusal}
 use Rattle.packet.specs.Views.{walked_of, seen_of}
 use Rattle.packet.specs.Walks.{nothing, seen_after, only_after}
 use Rattle.base.proofs.Asking.{answer_at_break}
-use Rattle.packet.proofs.Walks.{Going, going_starts, going_ends, going_stops, going-fits, Going-more}
+use Rattle.packet.proofs.Walks.{Going, going_starts, going_ends, going_stops, going_fits, Going-more}
 use Rattle.packet.proofs.walk.walk.Goals as goal
 
 pub loop-kind-init : goal.loop-kind-init
@@ -20,17 +20,17 @@ returns-in_err-size c =
     (going_stops _ _ _ _ _ c.loop-kind.invariant _ c.loop-kind-test.true c.in_err-size.ensures)
 
 pub overflow_sub-next : goal.overflow_sub-next
-overflow_sub-next c = let f = going-fits _ _ _ _ _ c.loop-kind.invariant _ c.in_ok-size.ensures in omega arith
+overflow_sub-next c = let f = going_fits _ _ _ _ _ c.loop-kind.invariant _ c.in_ok-size.ensures in omega arith
 
 pub bounds-rest-size : goal.bounds-rest-size
-bounds-rest-size c = let f = going-fits _ _ _ _ _ c.loop-kind.invariant _ c.in_ok-size.ensures in omega arith
+bounds-rest-size c = let f = going_fits _ _ _ _ _ c.loop-kind.invariant _ c.in_ok-size.ensures in omega arith
 
 pub overflow_add-place : goal.overflow_add-place
-overflow_add-place c = let f = going-fits _ _ _ _ _ c.loop-kind.invariant _ c.in_ok-size.ensures in omega arith
+overflow_add-place c = let f = going_fits _ _ _ _ _ c.loop-kind.invariant _ c.in_ok-size.ensures in omega arith
 
 pub loop-kind-smaller : goal.loop-kind-smaller
 loop-kind-smaller c =
-    let f = going-fits _ _ _ _ _ c.loop-kind.invariant _ c.in_ok-size.ensures in
+    let f = going_fits _ _ _ _ _ c.loop-kind.invariant _ c.in_ok-size.ensures in
     omega (arith, ap length c.step.ensures.rest)
 
 pub loop-kind-preserved : goal.loop-kind-preserved
