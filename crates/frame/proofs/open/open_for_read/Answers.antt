@@ -15,7 +15,7 @@ pub returns-in_err-check_layout : goal.returns-in_err-check_layout
 returns-in_err-check_layout g c =
     record {
       opens =
-          cases_at_break _ _ c.from-residual.result (Frame c.in_err-check_layout.field-0.0) c.from-residual.ensures.1
+          cases_at_break _ _ c.from_residual.result (Frame c.in_err-check_layout.field-0.0) c.from_residual.ensures.1
           (read_no_layout g.L.Layout.source (g.L.Layout.meaning c.args.layout.now) c.args.row_count c.args.buffer.now c.args.count
           _ c.in_err-check_layout.ensures);
       only_cut = reading_is_only_cut;
@@ -42,7 +42,7 @@ pub returns-in_err-open : goal.returns-in_err-open
 returns-in_err-open g c =
     record {
       opens =
-          cases_at_break _ _ c.from-residual-in_err-open.result (Frame c.in_err-open.field-0.0) c.from-residual-in_err-open.ensures.1
+          cases_at_break _ _ c.from_residual-in_err-open.result (Frame c.in_err-open.field-0.0) c.from_residual-in_err-open.ensures.1
           (read_no_packet g.L.Layout.source (g.L.Layout.meaning c.args.layout.now) c.args.row_count c.args.buffer.now c.args.count
           c.in_ok-check_layout.ensures (omega arith) _ c.in_err-open.ensures);
       only_cut = reading_is_only_cut;

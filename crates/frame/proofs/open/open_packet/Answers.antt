@@ -9,7 +9,7 @@ use Rattle.frame.proofs.open.open_packet.Goals as goal
 
 pub returns-in_err-found : goal.returns-in_err-found
 returns-in_err-found g c =
-    answer_at_break _ frame_refusal c.from-residual.result (Packet c.in_err-found.field-0.0) _ c.from-residual.ensures.1
+    answer_at_break _ frame_refusal c.from_residual.result (Packet c.in_err-found.field-0.0) _ c.from_residual.ensures.1
     (open_no_packet (g.L.Layout.meaning c.args.layout.now) _ _ _ c.in_err-found.ensures.answer)
 
 pub overflow_add-found : goal.overflow_add-found
@@ -24,7 +24,7 @@ survey_frame-requires g c =
 
 pub returns-in_err-survey : goal.returns-in_err-survey
 returns-in_err-survey g c =
-    answer_at_break _ frame_refusal c.from-residual-in_err-survey.result c.in_err-survey.field-0.0 _ c.from-residual-in_err-survey.ensures.1
+    answer_at_break _ frame_refusal c.from_residual-in_err-survey.result c.in_err-survey.field-0.0 _ c.from_residual-in_err-survey.ensures.1
     (open_no_frame (g.L.Layout.meaning c.args.layout.now) _ _ (located_of c.in_ok-found.found) c.in_ok-found.ensures.answer
     _ c.in_err-survey.ensures)
 

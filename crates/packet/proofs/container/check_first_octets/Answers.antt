@@ -6,8 +6,8 @@ use Rattle.base.proofs.Asking.{ask_yes, ask_no}
 use Rattle.packet.specs.Containers.{flags_right, message_type_right, length_right}
 use Rattle.packet.proofs.Numbers.{and-bit, big_endian_two}
 use Rattle.packet.proofs.container.check_first_octets.Goals as goal
-use Rattle.packet.proofs.container.check_first_octets.Goals.{then-flags-ne-GTP-1-via-then-flags-ne-GTP-1}
-use Rattle.packet.proofs.container.check_first_octets.Goals.{then-flags-ne-GTP-1-via-else-flags-ne-GTP-1+then-flags-eq0}
+use Rattle.packet.proofs.container.check_first_octets.Goals.{then-flags-ne-GTP_1-via-then-flags-ne-GTP_1}
+use Rattle.packet.proofs.container.check_first_octets.Goals.{then-flags-ne-GTP_1-via-else-flags-ne-GTP_1+then-flags-eq0}
 
 pub returns-then-flags-ne-GTP_1 : goal.returns-then-flags-ne-GTP_1
 returns-then-flags-ne-GTP_1 c =
@@ -15,8 +15,8 @@ returns-then-flags-ne-GTP_1 c =
     let e = and-bit (get_or k 0 0) 2 in
     let flags : flags_right k ≡ false =
     elim c.then-flags-ne-GTP_1.branch [
-      | then-flags-ne-GTP-1-via-then-flags-ne-GTP-1 w ↦ grind (arith, nat_tests)
-      | then-flags-ne-GTP-1-via-else-flags-ne-GTP-1+then-flags-eq0 w ↦ grind (arith, nat_tests)
+      | then-flags-ne-GTP_1-via-then-flags-ne-GTP_1 w ↦ grind (arith, nat_tests)
+      | then-flags-ne-GTP_1-via-else-flags-ne-GTP_1+then-flags-eq0 w ↦ grind (arith, nat_tests)
     ] in
     sym (ask_no (flags_right k) (no_packet 6 0) _ flags)
 

@@ -12,7 +12,7 @@ pub returns-in_err-check_first_octets : goal.returns-in_err-check_first_octets
 returns-in_err-check_first_octets c =
     let q = refused_by_first_octets _ _ c.requires.least c.requires.most c.requires.held _ c.in_err-check_first_octets.ensures in
     record {
-      answer = answer_at_break located_of packet_refusal _ _ _ c.from-residual.ensures.1 q;
+      answer = answer_at_break located_of packet_refusal _ _ _ c.from_residual.ensures.1 q;
       chain = walk_is_chain;
       laid_out = packet_is_laid_out;
     }
@@ -22,7 +22,7 @@ returns-in_err-walk c =
     let first = c.in_ok-check_first_octets.ensures in
     let q = refused_by_walk _ _ c.requires.least c.requires.most c.requires.held _ first c.in_err-walk.ensures in
     record {
-      answer = answer_at_break located_of packet_refusal _ _ _ c.from-residual-in_err-walk.ensures.1 q;
+      answer = answer_at_break located_of packet_refusal _ _ _ c.from_residual-in_err-walk.ensures.1 q;
       chain = walk_is_chain;
       laid_out = packet_is_laid_out;
     }

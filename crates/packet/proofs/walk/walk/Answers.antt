@@ -16,7 +16,7 @@ loop-kind-init c =
 
 pub returns-in_err-size : goal.returns-in_err-size
 returns-in_err-size c =
-    answer_at_break walked_of packet_refusal _ _ _ c.from-residual.ensures.1
+    answer_at_break walked_of packet_refusal _ _ _ c.from_residual.ensures.1
     (going_stops _ _ _ _ _ c.loop-kind.invariant _ c.loop-kind-test.true c.in_err-size.ensures)
 
 pub overflow_sub-next : goal.overflow_sub-next

@@ -9,10 +9,10 @@ pub returns-in_err-lawful : goal.returns-in_err-lawful
 returns-in_err-lawful g c =
     record {
       answer =
-          answer_at_break _ build_refusal c.from-residual.result (Below c.in_err-lawful.field-0.0) _ c.from-residual.ensures.1
+          answer_at_break _ build_refusal c.from_residual.result (Below c.in_err-lawful.field-0.0) _ c.from_residual.ensures.1
           (named_below g.L.Layout.source (g.L.Layout.meaning c.args.self.now.below) c.args.item c.args.bits _ c.in_err-lawful.ensures.answer);
       extends = built_extends;
-      within = made_at_break _ c.from-residual.result (Below c.in_err-lawful.field-0.0) c.from-residual.ensures.1;
+      within = made_at_break _ c.from_residual.result (Below c.in_err-lawful.field-0.0) c.from_residual.ensures.1;
     }
 
 pub returns-then-not-may_name : goal.returns-then-not-may_name
