@@ -7,11 +7,10 @@ use base::refusal::Refusal;
 use frame::row::Row;
 use layout::layout::Layout;
 use layout::named::NamedLayout;
-use std::fmt;
-use std::fmt::Write;
+use std::alloc::AllocError;
 
 /// Adds the line of an item that is present: its name and its value.
-fn push_row(out: &mut String, name: [u8; 3], row: Row) -> fmt::Result
+fn push_row(out: &mut String, name: [u8; 3], row: Row) -> Result<(), AllocError>
     ensures { OnOk result (string_bytes out.new ≡ string_bytes out.old ++ row_text name row) }
 {
     if !row.present {
@@ -26,7 +25,7 @@ fn push_row(out: &mut String, name: [u8; 3], row: Row) -> fmt::Result
 }
 
 /// Adds the line of a refusal.
-fn push_no(out: &mut String, refusal: Refusal) -> fmt::Result
+fn push_no(out: &mut String, refusal: Refusal) -> Result<(), AllocError>
     ensures { OnOk result (string_bytes out.new ≡ string_bytes out.old ++ no_text refusal) }
 {
     let number = refusal.number;
@@ -35,14 +34,14 @@ fn push_no(out: &mut String, refusal: Refusal) -> fmt::Result
 }
 
 /// Adds the line that ends an accepted answer.
-fn push_ok(out: &mut String, count: usize) -> fmt::Result
+fn push_ok(out: &mut String, count: usize) -> Result<(), AllocError>
     ensures { OnOk result (string_bytes out.new ≡ string_bytes out.old ++ ok_text count) }
 {
     write!(out, "OK {count}\n")
 }
 
 /// Adds a line for each present item of the first rows, one row for each item of the layout.
-fn push_rows<N: NamedLayout>(out: &mut String, layout: &N, rows: &[Row]) -> fmt::Result
+fn push_rows<N: NamedLayout>(out: &mut String, layout: &N, rows: &[Row]) -> Result<(), AllocError>
     ensures { OnOk result (string_bytes out.new ≡ string_bytes out.old ++ rows_text (N.names layout.now) 0 (take (length (N.meaning layout.now).items) rows.now)) }
 {
     let count = layout.count().min(rows.len());
@@ -58,7 +57,7 @@ fn push_shown<N: NamedLayout>(
     layout: &N,
     rows: &[Row],
     present: usize,
-) -> fmt::Result
+) -> Result<(), AllocError>
     ensures { OnOk result (string_bytes out.new ≡ string_bytes out.old ++ (rows_text (N.names layout.now) 0 (take (length (N.meaning layout.now).items) rows.now) ++ ok_text present)) }
 {
     push_rows(out, layout, rows)?;
@@ -66,7 +65,7 @@ fn push_shown<N: NamedLayout>(
 }
 
 /// Adds the lines of a reply; the rows of a read are in the table.
-pub fn push_reply(out: &mut String, reply: Reply, rows: &[Row]) -> fmt::Result
+pub fn push_reply(out: &mut String, reply: Reply, rows: &[Row]) -> Result<(), AllocError>
     ensures { OnOk result (string_bytes out.new ≡ string_bytes out.old ++ reply_text reply rows.now) }
 {
     match reply {
