@@ -11,4 +11,8 @@ bounds-octets-6 c = omega (arith, long c.args.octets.now (passes_from c.args.oct
 pub invariant_of-result : goal.invariant_of-result
 invariant_of-result c =
     let os = c.args.octets.now in
-    (type_is os c.requires, (half_octet os (passes_from os c.requires), (count_is os c.requires ∙ length_meaning os, tt)))
+    record {
+      typed = type_is os c.requires;
+      half = half_octet os (passes_from os c.requires);
+      counted = count_is os c.requires ∙ length_meaning os;
+    }
