@@ -6,4 +6,10 @@ use Rattle.extension.proofs.parts.with_bits.Goals as goal
 pub invariant_of-named : goal.invariant_of-named
 invariant_of-named c =
     let i = c.args.item in
-    (i.some, (i.most, (or_lt 8 i.mask c.args.bits i.octet (omega (arith, c.ranges.bits)), (i.bits, (λ e. absurd (c.in_default.not-Number e), tt)))))
+    record {
+      some = i.some;
+      most = i.most;
+      octet = or_lt 8 i.mask c.args.bits i.octet (omega (arith, c.ranges.bits));
+      bits = i.bits;
+      number = λ e. absurd (c.in_default.not-Number e);
+    }

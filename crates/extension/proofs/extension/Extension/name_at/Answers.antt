@@ -14,9 +14,9 @@ returns-then-i-low g c =
     let x = extras_of c.args.self.now.more in
     let few : length m.items ≤ 64 = omega (arith, c.count-low.ensures) in
     record {
-      value = c.name_below.ensures.value ∙ names_low m ns x c.name_below.ensures.each few c.args.i _ (omega (arith, c.count-low.ensures));
+      value = c.name-below.ensures.value ∙ names_low m ns x c.name-below.ensures.each few c.args.i _ (omega (arith, c.count-low.ensures));
       past = λ h. absurd (let b : ⊥ = omega (arith, h, extended_count m x few, c.count-low.ensures) in b);
-      each = names_count m ns x c.name_below.ensures.each few;
+      each = names_count m ns x c.name-below.ensures.each few;
     }
 
 pub returns : goal.returns
@@ -28,9 +28,9 @@ returns g c =
     let v : c.name_of.result ≡ name_at (extended_names (length m.items) ns x) c.args.i =
     c.name_of.ensures
     ∙ ap (λ (n : ℕ). name_at (map (λ (i : NamedItem). i.name) x.added) (c.args.i - n)) c.count-low.ensures
-    ∙ names_high m ns x c.name_below.ensures.each few c.args.i _ (omega (arith, c.count-low.ensures)) in
+    ∙ names_high m ns x c.name-below.ensures.each few c.args.i _ (omega (arith, c.count-low.ensures)) in
     record {
       value = v;
-      past = λ h. v ∙ get_or_past (extended_names (length m.items) ns x) c.args.i _ (omega (arith, h, names_count m ns x c.name_below.ensures.each few));
-      each = names_count m ns x c.name_below.ensures.each few;
+      past = λ h. v ∙ get_or_past (extended_names (length m.items) ns x) c.args.i _ (omega (arith, h, names_count m ns x c.name-below.ensures.each few));
+      each = names_count m ns x c.name-below.ensures.each few;
     }
