@@ -4,3 +4,4 @@ pub mod ReadingBack
 pub mod Plain
 pub mod Rewriting
 pub mod Putting
+pub mod Planning

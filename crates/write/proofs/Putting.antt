@@ -138,13 +138,13 @@ module _ (items old : List ℕ) (size pad : ℕ) (e : length items ≡ size) whe
       long : length (take (length (items ++ old) - size) (drop size (items ++ old))) ≡ pad
       long = length-take-le (length (items ++ old) - size) (drop size (items ++ old)) (omega (arith, rest, much)) ∙ much
 
-pub one_zero_more : (n : ℕ) → replicate (n + 1) 0 ≡ replicate n 0 ++ 0 ∷ []
-one_zero_more n = ap (λ (k : ℕ). replicate k 0) (one n) ∙ by n
+pub one_zero_more : (n : ℕ) → replicate {A = ℕ} (n + 1) 0 ≡ replicate n 0 ++ 0 ∷ []
+one_zero_more n = ap (λ (k : ℕ). replicate {A = ℕ} k 0) (one n) ∙ by n
   where
     one : (n : ℕ) → n + 1 ≡ suc n
     one n = omega arith
 
-    by : (n : ℕ) → replicate (suc n) 0 ≡ replicate n 0 ++ 0 ∷ []
+    by : (n : ℕ) → replicate {A = ℕ} (suc n) 0 ≡ replicate n 0 ++ 0 ∷ []
     by zero = refl
     by (suc n) = ap (λ (l : List ℕ). 0 ∷ l) (by n)
 

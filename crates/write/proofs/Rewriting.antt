@@ -187,7 +187,7 @@ module _ (o : ℕ) (m : Meaning) (made : EachMayExist m.items) (law : lawful o m
   frame_again t few z n =
       ap (λ (x : List (List ℕ)). joined x ++ replicate (padding (length (joined x))) 0) rewrites ∙ padded_again (joined cs) t few z n
 
-length_packet : (teid : ℕ) (f inner : List ℕ) → length (packet_of teid f inner) ≡ length f + length inner + 14
+pub length_packet : (teid : ℕ) (f inner : List ℕ) → length (packet_of teid f inner) ≡ length f + length inner + 14
 length_packet teid f inner = omega (arith, length-append f (0 ∷ inner))
 
 held : (f k : List ℕ) (room : ℕ) → length f ≤ 1018 → length k ≤ 9216 → length k ≤ room → may_be_held f k room ≡ true
