@@ -1,5 +1,5 @@
 -- Lines in what was read.
-use Rattle.std.specs.Prelude.{◌≡◌, ℕ, ◌<◌, List, length, ◌≢◌, slice_index}
+use Rattle.std.specs.Prelude.{ℕ, ◌<◌, List, length, ◌≢◌, slice_index}
 
 -- no octet ends a line
 abbrev pub NoEnd : List ℕ → Type 0

@@ -1,16 +1,15 @@
 -- What an extension answers to each question, by what it keeps and what the layout below answers.
-use Rattle.std.proofs.Common.{◌≡◌, ℕ, ◌+◌, ◌-◌, ◌<◌, ◌≤◌, List, map, length, get_or, take, Some, None, Option, sym, refl, ap, ◌∙◌, arith, length-take-le, get_or-take}
+use Rattle.std.proofs.Common.{◌≡◌, ℕ, ◌+◌, ◌-◌, ◌<◌, ◌≤◌, List, map, length, get_or, take, Some, None, sym, ap, ◌∙◌, arith, length-take-le, get_or-take}
 use lib.ListN.{length-map}
 use Rattle.std.specs.List.{slice_get}
 use Rattle.std.proofs.lemmas.List.{get_or-map}
-use Rattle.layout.specs.declared.item.Item.{Item}
 use Rattle.layout.specs.declared.table.TableRow.{TableRow}
 use Rattle.layout.specs.Items.{ItemMeaning, Meaning}
 use Rattle.layout.specs.Tables.{row_meaning, NamedItem}
 use Rattle.layout.specs.Views.{meant}
 use Rattle.layout.proofs.Nths.{nth-map, nth_past}
 use Rattle.extension.specs.declared.additions.Additions.{Additions}
-use Rattle.extension.specs.Extended.{Extras, named_too, added_items, extended}
+use Rattle.extension.specs.Extended.{named_too, added_items, extended}
 use Rattle.extension.specs.Views.{extras_of}
 use Rattle.extension.proofs.Listing.{extended_count, extended_low, extended_high}
 

@@ -1,5 +1,5 @@
 -- The questions of building one after another, by what the code finds.
-use Rattle.std.proofs.Common.{◌≡◌, ℕ, ◌+◌, ◌-◌, ◌<◌, ◌≤◌, Bool, true, false, cond, not, ◌&&◌, eqb, ltb, ◌⊎◌, length, get_or, Some, None, Option, sym, refl, ap, ◌∙◌, subst, ap₂, ⊎_elim, arith}
+use Rattle.std.proofs.Common.{◌≡◌, ℕ, ◌+◌, ◌-◌, ◌<◌, ◌≤◌, Bool, true, false, cond, not, ◌&&◌, eqb, ltb, length, Some, None, Option, sym, ap, ◌∙◌, subst, ap₂, ⊎_elim, arith}
 use lib.Bits.{bit_and}
 use Rattle.std.specs.List.{slice_get}
 use Rattle.std.proofs.lemmas.Bool.{lt-ltb, le-ltb, ltb-true, and_parts, cases_lt}
@@ -9,7 +9,6 @@ use Rattle.base.specs.Octets.{bit}
 use Rattle.base.proofs.Asking.{ask_yes, ask_no, bind_gives, bind_refused}
 use Rattle.layout.specs.declared.entry.RawEntry.{RawEntry}
 use Rattle.layout.specs.Items.{ItemGovernor, ungoverned, governed_by, ItemMeaning, Meaning, is_bits, item_at, no_item}
-use Rattle.layout.specs.Tables.{NamedItem}
 use Rattle.layout.specs.Entries.{entry_accepted}
 use Rattle.layout.specs.Questions.{lawful}
 use Rattle.layout.proofs.Nths.{get_or-from_nth, lt_from_nth, le_from_nth}

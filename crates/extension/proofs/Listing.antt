@@ -1,14 +1,12 @@
 -- What an extension has at each place.
-use Rattle.std.proofs.Common.{◌≡◌, ℕ, zero, suc, ◌+◌, ◌-◌, ◌<◌, ◌≤◌, Bool, true, cond, leb, List, [], ◌∷◌, ◌++◌, map, length, get_or, take, set, Some, None, sym, refl, ap, ◌∙◌, le_of_suc-le-suc, not-suc-le-zero, arith, length-append, length-take-le, get_or-take}
-use native.Mathlib.Nat.{sub-zero}
+use Rattle.std.proofs.Common.{◌≡◌, ℕ, zero, suc, ◌+◌, ◌-◌, ◌<◌, ◌≤◌, Bool, cond, List, [], ◌∷◌, ◌++◌, map, length, get_or, take, set, Some, sym, refl, ap, ◌∙◌, le_of_suc-le-suc, not-suc-le-zero, arith, length-append, length-take-le, get_or-take}
 use lib.ListN.{length-map, get_or-append}
 use Rattle.std.specs.List.{slice_get}
-use Rattle.std.specs.Option.{option_map}
 use Rattle.std.proofs.lemmas.List.{map-set, take_more_set, map_push, get_or-map, get_or-append_right}
 use Rattle.std.proofs.lemmas.Bool.{le-leb}
-use Rattle.layout.specs.Items.{ItemMeaning, Meaning, item_at, no_item}
+use Rattle.layout.specs.Items.{ItemMeaning, Meaning, item_at}
 use Rattle.layout.specs.Tables.{NamedItem}
-use Rattle.layout.proofs.Nths.{nth_past, lt_from_nth}
+use Rattle.layout.proofs.Nths.{lt_from_nth}
 use Rattle.extension.specs.Extended.{Extras, named_too, with_masks, added_items, extended, extended_names}
 
 -- rows of a table of which the first n count: one more, and one changed

@@ -1,5 +1,5 @@
 -- Building an extension: adding an item and naming bits, with questions 25 to 28, and what any such building leads to.
-use Rattle.std.specs.Prelude.{◌≡◌, ℕ, ◌+◌, ◌-◌, ◌^◌, ◌<◌, Bool, false, cond, not, ◌&&◌, List, [], ◌∷◌, ◌++◌, length, replicate, Some, None, Option, ◌==◌, bit_and, bit_or, nat_lt, slice_index, slice_index_or, slice_set}
+use Rattle.std.specs.Prelude.{ℕ, ◌+◌, ◌-◌, ◌^◌, ◌<◌, Bool, false, cond, not, ◌&&◌, List, [], ◌∷◌, ◌++◌, length, replicate, Some, None, Option, ◌==◌, bit_and, bit_or, nat_lt, slice_index, slice_index_or, slice_set}
 use Rattle.base.specs.declared.refusal.Refusal.{Refusal}
 use Rattle.base.specs.Answers.{Answer, refused, gives, ask, bind, no_layout}
 use Rattle.base.specs.Octets.{bit}

@@ -1,5 +1,5 @@
 -- What question 3 says of each governor of a lawful layout, and that this is all it says.
-use Rattle.std.proofs.Common.{◌≡◌, ℕ, zero, suc, ◌+◌, ◌<◌, ◌≤◌, Bool, true, false, ◌&&◌, eqb, leb, List, [], ◌∷◌, length, sym, refl, ap, ◌∙◌, subst, ap₂, ⊎_elim, add-zero, zero-add, arith}
+use Rattle.std.proofs.Common.{◌≡◌, ℕ, zero, suc, ◌+◌, ◌<◌, ◌≤◌, true, false, ◌&&◌, eqb, leb, List, [], ◌∷◌, length, sym, refl, ap, ◌∙◌, subst, ap₂, ⊎_elim, add-zero, zero-add, arith}
 use Rattle.std.proofs.lemmas.Bool.{ltb-true, eqb-true, and_parts, and_from, and_left, and_right, not-true, not_from_false, le-leb, lt-leb, lt-ltb, eq-eqb, ne_eqb, cases_lt, cases_eq}
 use Rattle.base.specs.Answers.{gives, first_no}
 use Rattle.base.specs.Octets.{bit}

@@ -1,13 +1,13 @@
 -- Questions 23 to 25 one after another, and what a file that passes them means.
-use Rattle.std.proofs.Common.{◌≡◌, ℕ, ◌+◌, ◌*◌, ◌<◌, ◌≤◌, Bool, true, false, ◌&&◌, eqb, leb, List, [], map, length, get_or, take, drop, Some, None, sym, refl, ap, ◌∙◌, arith}
+use Rattle.std.proofs.Common.{◌≡◌, ℕ, ◌+◌, ◌*◌, ◌<◌, ◌≤◌, true, false, leb, List, length, get_or, take, drop, Some, None, sym, refl, ap, ◌∙◌, arith}
 use lib.ListN.{length-map}
 use Rattle.std.specs.List.{slice_get}
 use Rattle.std.specs.Option.{option_map}
 use Rattle.std.proofs.lemmas.Bool.{eq-eqb, ne_eqb, eqb-true, leb-true, and_parts}
 use Rattle.base.specs.Answers.{Answer, refused, gives, no_layout}
-use Rattle.base.proofs.Asking.{ask_yes, ask_no, asked_yes, never}
+use Rattle.base.proofs.Asking.{ask_yes, ask_no, asked_yes}
 use Rattle.layout.specs.declared.entry.RawEntry.{RawEntry}
-use Rattle.layout.specs.Items.{ItemMeaning, Meaning}
+use Rattle.layout.specs.Items.{ItemMeaning}
 use Rattle.layout.specs.Tables.{NamedItem}
 use Rattle.layout.specs.Entries.{entry_accepted}
 use Rattle.layout.proofs.Firsts.{each_yes}

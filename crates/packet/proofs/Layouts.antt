@@ -5,7 +5,7 @@ use Rattle.std.proofs.lemmas.Bool.{eqb-true, eqb-false}
 use Rattle.base.specs.Answers.{gives, refused, no_packet}
 use Rattle.base.proofs.Asking.{never, gives_inj}
 use Rattle.packet.specs.Chains.{HeaderMeaning}
-use Rattle.packet.specs.Containers.{Located, is_container, no_second, only_container, container}
+use Rattle.packet.specs.Containers.{Located, is_container, no_second, only_container}
 use Rattle.packet.specs.Laws.{NoContainer, PacketIsLaidOut}
 use Rattle.packet.proofs.Chains.{walk_is_chain}
 use Rattle.packet.proofs.Containers.{container-accepted, container_inside}

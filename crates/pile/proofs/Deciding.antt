@@ -1,17 +1,16 @@
 -- Deciding whether a layout extends another: what each comparison of the code adds.
-use Rattle.std.proofs.Common.{◌≡◌, ℕ, ◌+◌, ◌<◌, ◌≤◌, Bool, true, false, eqb, List, length, Some, None, MatchBool, sym, refl, ap, ◌∙◌, subst, ap₂, inl, inr, ⊎_elim, arith, below_more}
+use Rattle.std.proofs.Common.{◌≡◌, ℕ, ◌+◌, ◌<◌, ◌≤◌, Bool, true, false, eqb, List, length, Some, MatchBool, sym, refl, ap, ◌∙◌, subst, inr, ⊎_elim, arith, below_more}
 use Rattle.std.specs.List.{slice_get}
 use Rattle.std.proofs.lemmas.Bool.{cases_lt, eqb-true, eqb-false}
 use Rattle.base.specs.Answers.{gives}
 use Rattle.base.specs.Octets.{bit}
 use Rattle.base.proofs.Asking.{never}
-use Rattle.layout.specs.Items.{ItemGovernor, ungoverned, governed_by, ItemMeaning, Meaning, EachMayExist, item_at, no_item}
+use Rattle.layout.specs.Items.{governed_by, ItemMeaning, Meaning, EachMayExist, item_at, no_item}
 use Rattle.layout.specs.Questions.{lawful}
 use Rattle.layout.proofs.Nths.{lt_from_nth, get_or-from_nth}
 use Rattle.layout.proofs.Passing.{lawful_any}
 use Rattle.pile.specs.declared.fault.Part.{Part}
 use Rattle.pile.specs.declared.fault.Part.TheVariants.{Kind, Governor, Length, Limit, Mask}
-use Rattle.pile.specs.declared.fault.ExtendsFault.{ExtendsFault}
 use Rattle.pile.specs.declared.fault.ExtendsFault.TheVariants.{Lower, Upper, PduType, Missing, Unlike, Stray}
 use Rattle.pile.specs.Extends.{LawfulLayout, Alike, HangsAbove, Extends}
 use Rattle.pile.specs.Reasons.{Differs, Comparable, AlikeBelow, FurtherBelow, Reason, ReasonsExclude}

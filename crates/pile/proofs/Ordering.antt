@@ -1,12 +1,12 @@
 -- Extends is an order on lawful layouts, so the topmost of a pile extends each layout of it.
-use Rattle.std.proofs.Common.{◌≡◌, ℕ, zero, suc, ◌<◌, ◌≤◌, List, [], ◌∷◌, length, sym, refl, ap, ◌∙◌, subst, inl, inr, ⊎_elim, arith}
+use Rattle.std.proofs.Common.{◌≡◌, ℕ, zero, suc, ◌<◌, ◌≤◌, List, [], ◌∷◌, length, refl, ap, ◌∙◌, subst, inl, inr, ⊎_elim, arith}
 use lib.Bits.{bit_and, and_self, and_le_l}
 use Rattle.std.proofs.lemmas.Bool.{cases_lt}
 use Rattle.base.specs.Octets.{bit}
 use Rattle.base.proofs.Bits.{bit-bit_and, bit_ext}
 use Rattle.layout.specs.Items.{ItemGovernor, ungoverned, governed_by, ItemMeaning, Meaning, item_at}
 use Rattle.layout.proofs.Made.{mask_small}
-use Rattle.pile.specs.Extends.{LawfulLayout, Alike, HangsAbove, Extends, Pile, topmost, layer, ExtendsIsOrder, TopmostExtends}
+use Rattle.pile.specs.Extends.{LawfulLayout, Alike, HangsAbove, Extends, topmost, ExtendsIsOrder, TopmostExtends}
 
 pub keeps_bit : (k a b : ℕ) → bit_and a b ≡ a → bit k a ≤ bit k b
 keeps_bit k a b e = omega (arith, bit-bit_and k a b, ap (bit k) e)

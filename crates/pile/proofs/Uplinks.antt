@@ -1,11 +1,9 @@
 -- The published uplink layouts are a pile, by one computed test over each two tables.
-use Rattle.std.proofs.Common.{◌≡◌, ℕ, zero, suc, ◌<◌, ◌≤◌, Bool, true, ◌&&◌, ◌||◌, eqb, leb, ◌⊎◌, List, [], ◌∷◌, length, refl, inl, inr, arith, lit≤}
+use Rattle.std.proofs.Common.{◌≡◌, ℕ, zero, suc, ◌<◌, ◌≤◌, List, [], ◌∷◌, length, refl, inl, inr, arith, lit≤}
 use lib.Bits.{bit_and}
-use Rattle.std.proofs.lemmas.Bool.{and_parts, eqb-true, leb-true}
-use Rattle.base.specs.Octets.{bit}
 use Rattle.layout.specs.declared.table.Published.{Published}
 use Rattle.layout.specs.declared.table.Published.TheVariants.{Ul161, Ul163, Ul19}
-use Rattle.layout.specs.Items.{ItemKind, ItemGovernor, ungoverned, governed_by, ItemMeaning, Meaning, item_at}
+use Rattle.layout.specs.Items.{ItemKind, ItemGovernor, ItemMeaning, item_at}
 use Rattle.layout.specs.Tables.{published_items, published_meaning}
 use Rattle.layout.proofs.Tabled.{tables_stand}
 use Rattle.pile.specs.Extends.{LawfulLayout, Alike, HangsAbove, Extends, UplinksArePile}

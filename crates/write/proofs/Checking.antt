@@ -1,5 +1,5 @@
 -- Question 22 row by row, and how many octets the items take so far.
-use Rattle.std.proofs.Common.{◌≡◌, ℕ, zero, suc, ◌+◌, ◌*◌, ◌/◌, ◌%◌, ◌^◌, ◌<◌, ◌≤◌, Bool, true, false, cond, ◌&&◌, eqb, List, [], ◌∷◌, ◌++◌, map, length, get_or, take, Some, sym, refl, ap, ◌∙◌, subst, ap₂, append_assoc, le_of_suc-le-suc, not-suc-le-zero, add-one, arith, length-append, take_all}
+use Rattle.std.proofs.Common.{◌≡◌, ℕ, zero, suc, ◌+◌, ◌*◌, ◌/◌, ◌%◌, ◌^◌, ◌<◌, ◌≤◌, Bool, true, false, cond, ◌&&◌, eqb, List, [], ◌∷◌, ◌++◌, map, length, get_or, take, Some, sym, refl, ap, ◌∙◌, ap₂, append_assoc, le_of_suc-le-suc, not-suc-le-zero, add-one, arith, length-append, take_all}
 use native.Mathlib.Nat.{zero-div}
 use Rattle.std.specs.List.{slice_get}
 use Rattle.std.proofs.lemmas.List.{get_or_past, append-nil}
@@ -9,7 +9,7 @@ use Rattle.base.specs.Octets.{bit, octets_of}
 use Rattle.base.proofs.Writing.{length-octets_of}
 use Rattle.layout.specs.Items.{ItemMeaning, Meaning, governed_by}
 use Rattle.layout.proofs.Firsts.{Clear, clear_none, clear_more, no_here, clear_all}
-use Rattle.layout.proofs.Nths.{take_to_nth, lt_from_nth}
+use Rattle.layout.proofs.Nths.{take_to_nth}
 use Rattle.frame.specs.declared.row.Row.{Row}
 use Rattle.frame.specs.Pieces.{joined}
 use Rattle.frame.specs.Rows.{absent}

@@ -1,5 +1,5 @@
 -- What is known of a packet before an octet of it is put, and which question refuses it.
-use Rattle.std.proofs.Common.{◌≡◌, ℕ, ◌+◌, ◌<◌, ◌≤◌, Bool, true, false, ◌&&◌, eqb, leb, List, length, replicate, sym, refl, ap, ◌∙◌, ap₂, arith, length-append}
+use Rattle.std.proofs.Common.{◌≡◌, ℕ, ◌+◌, ◌<◌, ◌≤◌, Bool, true, false, ◌&&◌, leb, List, length, replicate, sym, refl, ap, ◌∙◌, ap₂, arith, length-append}
 use lib.ListN.{length-replicate}
 use Rattle.std.proofs.lemmas.Bool.{and_parts, eq-eqb, ne_eqb, leb-true, le-leb, lt-leb}
 use Rattle.base.specs.declared.refusal.Refusal.{Refusal}
@@ -9,7 +9,6 @@ use Rattle.layout.specs.Items.{Meaning}
 use Rattle.layout.specs.Questions.{lawful}
 use Rattle.frame.specs.declared.row.Row.{Row}
 use Rattle.frame.specs.Pieces.{joined}
-use Rattle.write.specs.declared.write.Plan.{Plan}
 use Rattle.write.specs.Plans.{Planned}
 use Rattle.write.specs.Writing.{first_unfit, pieces_for, padding, plain_frame, packet_of, may_be_held, written}
 use Rattle.write.proofs.Rewriting.{length_packet}

@@ -1,4 +1,4 @@
-use Rattle.std.proofs.Common.{◌≡◌, ◌<◌, ◌≤◌, length, sym, ap, ◌∙◌, arith}
+use Rattle.std.proofs.Common.{◌≡◌, ◌<◌, ◌∙◌, arith}
 use Rattle.layout.specs.Views.{meant}
 use Rattle.layout.proofs.Firsts.{clear_none, clear_more, no_here, clear_all}
 use Rattle.layoutfile.specs.Files.{is_item, entries, stated_count}

@@ -1,4 +1,4 @@
-use Rattle.std.proofs.Common.{◌≡◌, sym, ap, ◌∙◌, arith, below_more}
+use Rattle.std.proofs.Common.{sym, ap, ◌∙◌, arith, below_more}
 use Rattle.layout.specs.Items.{ItemMeaning, no_item}
 use Rattle.layout.proofs.Nths.{le_from_nth, lt_from_nth, get_or-from_nth}
 use Rattle.layouts.proofs.roles.first_governed.Goals as goal

@@ -1,6 +1,5 @@
-use Rattle.std.proofs.Common.{subst, arith}
+use Rattle.std.proofs.Common.{arith}
 use Rattle.layout.proofs.Nths.{le_from_nth, lt_from_nth}
-use Rattle.pile.specs.Reasons.{AlikeBelow}
 use Rattle.pile.proofs.Deciding.{alike_more, unlike_here}
 use Rattle.pile.proofs.extends.compare_items.Goals as goal
 

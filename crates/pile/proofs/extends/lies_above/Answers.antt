@@ -1,4 +1,4 @@
-use Rattle.std.proofs.Common.{◌≡◌, eqb, MatchBool, sym, ap, subst, arith}
+use Rattle.std.proofs.Common.{eqb, MatchBool, sym, ap, subst, arith}
 use Rattle.base.specs.Octets.{bit}
 use Rattle.layout.specs.Items.{ItemGovernor}
 use Rattle.layout.specs.Views.{governor_meaning}

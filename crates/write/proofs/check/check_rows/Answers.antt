@@ -1,11 +1,11 @@
-use Rattle.std.proofs.Common.{◌≡◌, ℕ, ◌+◌, ◌<◌, ◌≤◌, true, false, cond, length, get_or, sym, refl, ap, ◌∙◌, subst, ap₂, add-zero, arith}
+use Rattle.std.proofs.Common.{◌≡◌, ℕ, length, get_or, ap, ◌∙◌, arith}
 use Rattle.layout.specs.Views.{meant}
-use Rattle.layout.proofs.Nths.{le_from_nth, lt_from_nth}
+use Rattle.layout.proofs.Nths.{le_from_nth}
 use Rattle.frame.specs.declared.row.Row.{Row}
 use Rattle.frame.specs.Rows.{absent}
 use Rattle.write.specs.declared.fault.WriteFault.TheVariants.{Unfit}
 use Rattle.write.specs.Writing.{first_unfit, fit_at}
-use Rattle.write.proofs.Checking.{Fitting, nth_at, fitting_none, unfit_here, fitting_more, fitting_all}
+use Rattle.write.proofs.Checking.{nth_at, fitting_none, unfit_here, fitting_more, fitting_all}
 use Rattle.write.proofs.check.check_rows.Goals as goal
 
 pub loop-i-init : goal.loop-i-init

@@ -1,4 +1,4 @@
-use Rattle.std.proofs.Common.{◌≡◌, ℕ, ◌+◌, ◌-◌, ◌≤◌, List, [], ◌∷◌, ◌++◌, length, drop, replicate, sym, ap, ◌∙◌, ap₂, append_assoc, arith, length-append, length-drop, rules}
+use Rattle.std.proofs.Common.{◌≡◌, ℕ, ◌+◌, ◌-◌, ◌≤◌, [], ◌∷◌, ◌++◌, length, drop, replicate, sym, ap, ◌∙◌, ap₂, append_assoc, arith, length-append, length-drop, rules}
 use lib.ListN.{length-replicate}
 use Rattle.frame.specs.Pieces.{joined}
 use Rattle.write.specs.Writing.{pieces_for, padding}

@@ -6,7 +6,7 @@ use Rattle.layout.proofs.Nths.{le_from_nth}
 use Rattle.frame.specs.declared.row.Row.{Row}
 use Rattle.frame.specs.Rows.{absent}
 use Rattle.write.proofs.Checking.{nth_at}
-use Rattle.write.proofs.Putting.{Put, put_none, within_out, put_more, put_all, value_fits}
+use Rattle.write.proofs.Putting.{put_none, within_out, put_more, put_all, value_fits}
 use Rattle.write.proofs.put.put_items.Goals as goal
 
 pub loop-i-init : goal.loop-i-init

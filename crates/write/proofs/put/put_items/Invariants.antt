@@ -1,4 +1,3 @@
-use Rattle.std.proofs.Common.{◌≡◌, length}
 use Rattle.write.proofs.Putting.{Put}
 use Rattle.write.proofs.put.put_items.Given as goal
 

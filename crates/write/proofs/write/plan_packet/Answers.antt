@@ -1,8 +1,8 @@
-use Rattle.std.proofs.Common.{◌≡◌, ℕ, ◌+◌, ◌≤◌, sym, ap, subst, ◌∙◌, arith, length}
+use Rattle.std.proofs.Common.{ℕ, ◌+◌, ◌≤◌, sym, ap, subst, ◌∙◌, arith, length}
 use Rattle.base.specs.Answers.{refused}
 use Rattle.base.proofs.Asking.{cases_at_break}
 use Rattle.layout.proofs.Passing.{passes_from}
-use Rattle.write.specs.declared.fault.WriteFault.TheVariants.{Layout, Unfit}
+use Rattle.write.specs.declared.fault.WriteFault.TheVariants.{Layout}
 use Rattle.write.specs.Faults.{write_refusal}
 use Rattle.write.specs.Plans.{Planned}
 use Rattle.write.proofs.Planning.{plan_no_layout, plan_no_rows, plan_unfit, plan_no_space, plan_gives, planned}

@@ -1,4 +1,4 @@
-use Rattle.std.proofs.Common.{◌≡◌, ℕ, List, map, length, sym, ap, ◌∙◌, arith}
+use Rattle.std.proofs.Common.{map, sym, arith}
 use Rattle.layout.specs.Tables.{NamedItem}
 use Rattle.std.proofs.lemmas.List.{length-map, get_or_past}
 use Rattle.extension.specs.Views.{extras_of}

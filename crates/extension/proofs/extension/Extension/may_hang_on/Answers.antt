@@ -1,9 +1,7 @@
-use Rattle.std.proofs.Common.{◌≡◌, ℕ, ◌-◌, ◌<◌, ◌≤◌, length, get_or, Some, ap, ◌∙◌, arith}
-use Rattle.std.specs.List.{slice_get}
+use Rattle.std.proofs.Common.{ℕ, ◌-◌, length, get_or, ap, ◌∙◌, arith}
 use Rattle.layout.specs.Items.{is_bits}
 use Rattle.layout.specs.Views.{meant, kind_meaning}
 use Rattle.layout.proofs.Nths.{le_from_nth}
-use Rattle.extension.specs.Extended.{added_items}
 use Rattle.extension.specs.Views.{extras_of}
 use Rattle.extension.proofs.Asked.{length_added, nth_added}
 use Rattle.extension.proofs.Judged.{hang_below, hang_past, hang_added}
