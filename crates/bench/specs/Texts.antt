@@ -1,6 +1,5 @@
 -- The text of the bench's answers.
-use Rattle.std.specs.Prelude.{ℕ, suc, cond, List, [], ◌∷◌, ◌++◌, length, take, codes, decimal, slice_index}
-use Rattle.std.proofs.Math.Utf8.{encode}
+use Rattle.std.specs.Prelude.{ℕ, suc, cond, List, [], ◌∷◌, ◌++◌, length, take, codes, decimal, slice_index, encode_utf8}
 use Rattle.base.specs.declared.refusal.Refusal.{Refusal}
 use Rattle.layout.specs.Items.{name_at}
 use Rattle.layout.specs.Tables.{published_names, published_items}
@@ -11,7 +10,7 @@ use Rattle.bench.specs.declared.reply.Reply.TheVariants.{Refused, Kept, Shown}
 -- an item: its name and its value, and nothing if it is absent
 abbrev pub row_text : List ℕ → Row → List ℕ
 row_text name r =
-    cond r.present (encode (slice_index name 0) ++ (encode (slice_index name 1) ++ (encode (slice_index name 2) ++ (32 ∷ (decimal r.value ++ 10 ∷ []))))) []
+    cond r.present (encode_utf8 (slice_index name 0) ++ (encode_utf8 (slice_index name 1) ++ (encode_utf8 (slice_index name 2) ++ (32 ∷ (decimal r.value ++ 10 ∷ []))))) []
 
 -- a refusal: its number and its place
 abbrev pub no_text : Refusal → List ℕ

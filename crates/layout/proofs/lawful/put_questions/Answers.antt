@@ -31,12 +31,10 @@ returns-then-item-count g c =
       published = tables_stand;
     }
 
-pub returns : goal.returns
-returns g c =
-    record {
-      answer =
-          passed (g.L.Layout.meaning c.args.layout.now) _ _ _ c.origin_number-origin.ensures c.requires c.if-not-may_count.ensures
-          c.if-not-first_leads.ensures _ c.first_misfit-item.ensures.place c.if-item-count.false;
-      items = c.first_misfit-item.ensures.items c.if-item-count.false;
-      published = tables_stand;
-    }
+pub returns-clause-answer : goal.returns-clause-answer
+returns-clause-answer g c =
+    passed (g.L.Layout.meaning c.args.layout.now) _ _ _ c.origin_number-origin.ensures c.requires c.if-not-may_count.ensures
+    c.if-not-first_leads.ensures _ c.first_misfit-item.ensures.place c.if-item-count.false
+
+pub returns-clause-published : goal.returns-clause-published
+returns-clause-published g c = tables_stand
