@@ -1,7 +1,7 @@
 -- A number and the octets that write it: each gives back the other.
 use Rattle.std.proofs.Common.{◌≡◌, ℕ, zero, suc, ◌+◌, ◌-◌, ◌*◌, ◌/◌, ◌%◌, ◌^◌, ◌<◌, ◌≤◌, List, [], ◌∷◌, ◌++◌, length, get_or, take, drop, set, sym, refl, ap, ◌∙◌, ap₂, arith, length-drop, length-set}
 use native.Mathlib.Nat.{sub-zero}
-use Rattle.std.proofs.lemmas.List.{drop_all, drop-set}
+use Rattle.std.proofs.lemmas.List.{drop_all, drop-set, get_or_past}
 use Rattle.std.proofs.lemmas.Nat.{div-mul-add, mod-mul-add, mod_below, div_below, div-add-mod'}
 use Rattle.base.specs.Octets.{Octets, big_endian, octets_of, NumbersKeep}
 use Rattle.base.proofs.Numbers.{big_endian_lt, pow_more}
@@ -71,7 +71,7 @@ octets_are c v h e = sym (ap (octets_of (length c)) (sym e) ∙ octets_of-big_en
 abbrev pub WrittenFrom : ℕ → List ℕ → ℕ → ℕ → Type 0
 WrittenFrom value os i rest = value ≡ rest * 256 ^ (length os - i) + big_endian (drop i os)
 
-pub written_none : (value : ℕ) (os : List ℕ) → WrittenFrom value os (length os) value
+written_none : (value : ℕ) (os : List ℕ) → WrittenFrom value os (length os) value
 written_none value os =
     sym (ap₂ (λ (n : ℕ) (l : List ℕ). value * 256 ^ n + big_endian l) nothing (drop_all (length os) os (omega arith)) ∙ one value)
   where
@@ -80,6 +80,13 @@ written_none value os =
 
     one : (v : ℕ) → v * 256 ^ 0 + 0 ≡ v
     one v = omega arith
+
+-- before an octet is written: the number is all in rest, and behind the end each octet is small
+pub written_start : (value : ℕ) (os : List ℕ) → WrittenFrom value os (length os) value × ((j : ℕ) → length os ≤ j → get_or os j 0 < 256)
+written_start value os = (written_none value os, λ j l. past j l)
+  where
+    past : (j : ℕ) → length os ≤ j → get_or os j 0 < 256
+    past j l = rw (get_or_past os j 0 l) (omega arith)
 
 pub written_more : (value : ℕ) (os : List ℕ) (k rest : ℕ) → k < length os → WrittenFrom value os (k + 1) rest
     → WrittenFrom value (set os k (rest % 256)) k (rest / 256)

@@ -15,6 +15,7 @@ pub fn number(octets: &[u8]) -> u64
 }
 
 /// Writes a number into octets, the highest first: exact where they are enough for it, modulo 256 to their count where not.
+#[tactic(auto, using(crate::proofs::Writing::written_start))]
 pub fn put_number(value: u64, octets: &mut [u8])
     ensures wrapped { octets.new ≡ octets_of (length octets.old) (value % 256 ^ length octets.old) }
     ensures exact { value < 256 ^ length octets.old → octets.new ≡ octets_of (length octets.old) value }

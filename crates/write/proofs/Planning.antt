@@ -1,9 +1,9 @@
 -- What is known of a packet before an octet of it is put, and which question refuses it.
-use Rattle.std.proofs.Common.{◌≡◌, ℕ, ◌+◌, ◌<◌, ◌≤◌, Bool, true, false, ◌&&◌, leb, List, length, replicate, sym, refl, ap, ◌∙◌, ap₂, arith, length-append}
+use Rattle.std.proofs.Common.{◌≡◌, ℕ, ◌+◌, ◌<◌, ◌≤◌, Bool, true, false, ◌&&◌, eqb, leb, List, length, replicate, sym, refl, ap, ◌∙◌, ap₂, arith, length-append}
 use lib.ListN.{length-replicate}
 use Rattle.std.proofs.lemmas.Bool.{and_parts, eq-eqb, ne_eqb, leb-true, le-leb, lt-leb}
 use Rattle.base.specs.declared.refusal.Refusal.{Refusal}
-use Rattle.base.specs.Answers.{refused, gives, no_call}
+use Rattle.base.specs.Answers.{refused, gives, ask, no_call}
 use Rattle.base.proofs.Asking.{ask_yes, ask_no, bind_gives, bind_refused}
 use Rattle.layout.specs.Items.{Meaning}
 use Rattle.layout.specs.Questions.{lawful}
@@ -13,7 +13,7 @@ use Rattle.write.specs.Plans.{Planned}
 use Rattle.write.specs.Writing.{first_unfit, pieces_for, padding, plain_frame, packet_of, may_be_held, written}
 use Rattle.write.proofs.Rewriting.{length_packet}
 
--- the count that a packet would have, and whether it may be held
+-- whether a frame of so many octets, and a packet of so many, may be held
 abbrev fits_in : ℕ → ℕ → ℕ → Bool
 fits_in frame count room = leb frame 1018 && (leb count 9216 && leb count room)
 
@@ -28,12 +28,19 @@ module _ (o : ℕ) (m : Meaning) (rs : List Row) (inner : List ℕ) (room : ℕ)
     plan_no_rows h t = bind_gives _ _ tt (sym e) ∙ ask_no _ _ _ (lt-leb (length m.items) (length rs) h)
 
     module _ (h : length m.items ≤ length rs) where
+      -- a layout and a table that pass leave 22 and 21
+      on : (t : ℕ)
+          → written o m rs t inner room
+          ≡ ask (eqb (first_unfit m rs) (length m.items)) (no_call 22 (first_unfit m rs))
+          (ask (may_be_held (plain_frame m.items rs) (packet_of t (plain_frame m.items rs) inner) room)
+          (no_call 21 (length (packet_of t (plain_frame m.items rs) inner)))
+          (gives (packet_of t (plain_frame m.items rs) inner)))
+      unfolding written
+      on t = bind_gives _ _ tt (sym e) ∙ ask_yes _ _ _ (le-leb (length m.items) (length rs) h)
+
       pub plan_unfit : (first_unfit m rs ≡ length m.items → ⊥) → (t : ℕ)
           → written o m rs t inner room ≡ refused (no_call 22 (first_unfit m rs))
-      unfolding written
-      plan_unfit n t =
-          bind_gives _ _ tt (sym e) ∙ ask_yes _ _ _ (le-leb (length m.items) (length rs) h)
-          ∙ ask_no _ _ _ (ne_eqb (first_unfit m rs) (length m.items) n)
+      plan_unfit n t = on t ∙ ask_no _ _ _ (ne_eqb (first_unfit m rs) (length m.items) n)
 
       module _ (f : first_unfit m rs ≡ length m.items) (size pad : ℕ) (s : size ≡ length (joined (pieces_for m.items rs)))
           (d : pad ≡ padding size) where
@@ -58,19 +65,15 @@ module _ (o : ℕ) (m : Meaning) (rs : List Row) (inner : List ℕ) (room : ℕ)
         held t = ap₂ (λ (x y : ℕ). fits_in x y room) framed (counted t)
 
         pub plan_no_space : false ≡ fits_in frame count room → (t : ℕ) → written o m rs t inner room ≡ refused (no_call 21 count)
-        unfolding written
         plan_no_space n t =
-            bind_gives _ _ tt (sym e) ∙ ask_yes _ _ _ (le-leb (length m.items) (length rs) h)
-            ∙ ask_yes _ _ _ (eq-eqb (first_unfit m rs) (length m.items) f)
+            on t ∙ ask_yes _ _ _ (eq-eqb (first_unfit m rs) (length m.items) f)
             ∙ ask_no _ _ _ (sym (n ∙ held t))
             ∙ ap (λ (k : ℕ). refused (no_call 21 k)) (sym (counted t))
 
         pub plan_gives : true ≡ fits_in frame count room → (t : ℕ)
             → written o m rs t inner room ≡ gives (packet_of t (plain_frame m.items rs) inner)
-        unfolding written
         plan_gives y t =
-            bind_gives _ _ tt (sym e) ∙ ask_yes _ _ _ (le-leb (length m.items) (length rs) h)
-            ∙ ask_yes _ _ _ (eq-eqb (first_unfit m rs) (length m.items) f)
+            on t ∙ ask_yes _ _ _ (eq-eqb (first_unfit m rs) (length m.items) f)
             ∙ ask_yes _ _ _ (sym (y ∙ held t))
 
         pub planned : true ≡ fits_in frame count room

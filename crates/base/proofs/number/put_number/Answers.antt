@@ -1,14 +1,7 @@
 use Rattle.std.proofs.Common.{◌≡◌, ℕ, ◌+◌, ◌-◌, ◌%◌, ◌^◌, ◌<◌, ◌≤◌, List, length, get_or, ap, ◌∙◌, subst, mod-eq_of_lt, arith}
-use Rattle.std.proofs.lemmas.List.{get_or_past}
 use Rattle.base.specs.Octets.{octets_of}
-use Rattle.base.proofs.Writing.{WrittenFrom, written_none, written_more, written_all, octet_set, numbers_keep}
+use Rattle.base.proofs.Writing.{WrittenFrom, written_more, written_all, octet_set, numbers_keep}
 use Rattle.base.proofs.number.put_number.Goals as goal
-
-past : (os : List ℕ) (j : ℕ) → length os ≤ j → get_or os j 0 < 256
-past os j l = rw (get_or_past os j 0 l) (omega arith)
-
-pub loop-i-init : goal.loop-i-init
-loop-i-init c = (written_none c.args.value c.args.octets.now, λ j l. past c.args.octets.now j l)
 
 pub loop-i-preserved : goal.loop-i-preserved
 loop-i-preserved c =
