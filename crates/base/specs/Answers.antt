@@ -1,8 +1,10 @@
 -- What a call answers: a result, or the refusal of the first question whose answer is no.
 use Rattle.std.specs.Prelude.{ℕ, suc, Bool, true, false, List, [], ◌∷◌, Some, None, Ok, Err, Result}
 use Rattle.base.specs.declared.refusal.Refusal.{Refusal}
-use Rattle.base.specs.declared.refusal.Layer.{Layer}
-use Rattle.base.specs.declared.refusal.Layer.TheVariants as L
+use Rattle.base.specs.declared.question.Question.{Question}
+use Rattle.base.specs.declared.question.Question.TheVariants as Q
+use Rattle.base.specs.declared.layer.Layer.{Layer}
+use Rattle.base.specs.declared.layer.Layer.TheVariants as L
 
 pub data Answer (A : Type 0) : Type 0 where
   refused : Refusal → Answer A
@@ -37,18 +39,59 @@ layer_number L.Frame = 3
 layer_number L.Call = 4
 layer_number L.Bench = 5
 
--- the refusals of each layer: the question's number and the place; of a layout also its origin
-abbrev pub no_layout : ℕ → ℕ → ℕ → Refusal
-no_layout o n p = record { number = n; layer = L.Layout; place = p; origin = Some o }
+-- the questions' numbers
+abbrev pub question_number : Question → ℕ
+question_number Q.ItemCount = 1
+question_number Q.FirstItem = 2
+question_number Q.Governors = 3
+question_number Q.TableRows = 4
+question_number Q.PacketCount = 5
+question_number Q.Flags = 6
+question_number Q.MessageType = 7
+question_number Q.StatedLength = 8
+question_number Q.Header = 9
+question_number Q.Container = 10
+question_number Q.PduType = 11
+question_number Q.ItemFits = 12
+question_number Q.Limit = 13
+question_number Q.Room = 21
+question_number Q.RowFits = 22
+question_number Q.FileStart = 23
+question_number Q.FileSize = 24
+question_number Q.Entry = 25
+question_number Q.Space = 26
+question_number Q.AddedGovernor = 27
+question_number Q.SpareBits = 28
+question_number Q.Command = 29
 
-abbrev pub no_packet : ℕ → ℕ → Refusal
-no_packet n p = record { number = n; layer = L.Packet; place = p; origin = None }
+-- what each question is put to
+abbrev pub question_layer : Question → Layer
+question_layer Q.ItemCount = L.Layout
+question_layer Q.FirstItem = L.Layout
+question_layer Q.Governors = L.Layout
+question_layer Q.TableRows = L.Call
+question_layer Q.PacketCount = L.Packet
+question_layer Q.Flags = L.Packet
+question_layer Q.MessageType = L.Packet
+question_layer Q.StatedLength = L.Packet
+question_layer Q.Header = L.Packet
+question_layer Q.Container = L.Packet
+question_layer Q.PduType = L.Frame
+question_layer Q.ItemFits = L.Frame
+question_layer Q.Limit = L.Frame
+question_layer Q.Room = L.Call
+question_layer Q.RowFits = L.Call
+question_layer Q.FileStart = L.Layout
+question_layer Q.FileSize = L.Layout
+question_layer Q.Entry = L.Layout
+question_layer Q.Space = L.Layout
+question_layer Q.AddedGovernor = L.Layout
+question_layer Q.SpareBits = L.Layout
+question_layer Q.Command = L.Bench
 
-abbrev pub no_frame : ℕ → ℕ → Refusal
-no_frame n p = record { number = n; layer = L.Frame; place = p; origin = None }
+-- a no: the question and the place; of a layout also its origin
+abbrev pub no_to : Question → ℕ → Refusal
+no_to q p = record { question = q; place = p; origin = None }
 
-abbrev pub no_call : ℕ → ℕ → Refusal
-no_call n p = record { number = n; layer = L.Call; place = p; origin = None }
-
-abbrev pub no_bench : ℕ → ℕ → Refusal
-no_bench n p = record { number = n; layer = L.Bench; place = p; origin = None }
+abbrev pub no_layout : ℕ → Question → ℕ → Refusal
+no_layout o q p = record { question = q; place = p; origin = Some o }

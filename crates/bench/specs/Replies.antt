@@ -1,6 +1,7 @@
 -- What the bench answers to a line, and what it keeps then.
 use Rattle.std.specs.Prelude.{◌≡◌, ℕ, List, ◌++◌, length, drop}
-use Rattle.base.specs.Answers.{Answer, refused, gives, no_bench}
+use Rattle.base.specs.declared.question.Question.TheVariants as Q
+use Rattle.base.specs.Answers.{Answer, refused, gives, no_to}
 use Rattle.layout.specs.declared.table.Published.{Published}
 use Rattle.layout.specs.Tables.{published_meaning}
 use Rattle.frame.specs.declared.row.Row.{Row}
@@ -35,4 +36,4 @@ pub record Answered (line : List ℕ) (b a : Bench) (t u : List Row) (r : Reply)
   pub read : (l : Published) → IsReadLine line l
       → Same b a × (u ≡ shown_table l b t) × (r ≡ shown_reply l b t)
   -- any other line gives 29, and changes nothing
-  pub other : IsNoCommand line → Same b a × (u ≡ t) × (r ≡ Refused (no_bench 29 0))
+  pub other : IsNoCommand line → Same b a × (u ≡ t) × (r ≡ Refused (no_to Q.Command 0))

@@ -4,6 +4,7 @@ use lib.Bits.{bit_and}
 use Rattle.std.specs.List.{slice_get}
 use Rattle.std.proofs.lemmas.Bool.{lt-ltb, le-ltb, ltb-true, and_parts, cases_lt}
 use Rattle.base.specs.declared.refusal.Refusal.{Refusal}
+use Rattle.base.specs.declared.question.Question.TheVariants as Q
 use Rattle.base.specs.Answers.{Answer, refused, gives, no_layout}
 use Rattle.base.specs.Octets.{bit}
 use Rattle.base.proofs.Asking.{ask_yes, ask_no, bind_gives, bind_refused}
@@ -63,17 +64,17 @@ module _ (o : ℕ) (m : Meaning) (x : Extras) (e : RawEntry) where
   judged_below r h = bind_refused (lawful o m) _ r (sym h)
 
   module _ (l : gives tt ≡ lawful o m) (n : ℕ) (c : n ≡ count_all m x) where
-    pub judged_25 : None ≡ entry_accepted e → refused (no_layout 3 25 n) ≡ may_add o m x e
+    pub judged_25 : None ≡ entry_accepted e → refused (no_layout 3 Q.Entry n) ≡ may_add o m x e
     unfolding may_add
     judged_25 h =
-        ap (λ (k : ℕ). refused (no_layout 3 25 k)) c
+        ap (λ (k : ℕ). refused (no_layout 3 Q.Entry k)) c
         ∙ sym (bind_gives (lawful o m) _ tt (sym l) ∙ item_none (entry_accepted e) _ _ (sym h))
 
     module _ (i : ItemMeaning) (a : Some i ≡ entry_accepted e) (k : ℕ) (d : k ≡ length x.added) where
-      pub judged_26 : false ≡ (ltb k 16 && ltb n 64) → refused (no_layout 3 26 n) ≡ may_add o m x e
+      pub judged_26 : false ≡ (ltb k 16 && ltb n 64) → refused (no_layout 3 Q.Space n) ≡ may_add o m x e
       unfolding may_add
       judged_26 h =
-          ap (λ (k : ℕ). refused (no_layout 3 26 k)) c
+          ap (λ (k : ℕ). refused (no_layout 3 Q.Space k)) c
           ∙ sym (bind_gives (lawful o m) _ tt (sym l) ∙ item_some (entry_accepted e) _ _ i (sym a)
           ∙ ask_no _ _ _ (sym (h ∙ ap₂ (λ (y z : ℕ). ltb y 16 && ltb z 64) d c)))
 
@@ -81,7 +82,7 @@ module _ (o : ℕ) (m : Meaning) (x : Extras) (e : RawEntry) where
         space : (ltb (length x.added) 16 && ltb (count_all m x) 64) ≡ true
         space = sym (s ∙ ap₂ (λ (y z : ℕ). ltb y 16 && ltb z 64) d c)
 
-        pub judged_27 : false ≡ may_hang_on m x i.governor → refused (no_layout 3 27 e.item.governor) ≡ may_add o m x e
+        pub judged_27 : false ≡ may_hang_on m x i.governor → refused (no_layout 3 Q.AddedGovernor e.item.governor) ≡ may_add o m x e
         unfolding may_add
         judged_27 h =
             sym (bind_gives (lawful o m) _ tt (sym l) ∙ item_some (entry_accepted e) _ _ i (sym a) ∙ ask_yes _ _ _ space ∙ ask_no _ _ _ (sym h))
@@ -118,7 +119,7 @@ module _ (o : ℕ) (m : Meaning) (j bits : ℕ) where
   named_below r h = bind_refused (lawful o m) _ r (sym h)
 
   module _ (l : gives tt ≡ lawful o m) where
-    pub named_28 : false ≡ may_name m j bits → refused (no_layout 3 28 j) ≡ may_name_bits o m j bits
+    pub named_28 : false ≡ may_name m j bits → refused (no_layout 3 Q.SpareBits j) ≡ may_name_bits o m j bits
     unfolding may_name_bits
     named_28 h = sym (bind_gives (lawful o m) _ tt (sym l) ∙ ask_no _ _ _ (sym h))
 

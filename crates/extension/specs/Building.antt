@@ -1,6 +1,7 @@
 -- Building an extension: adding an item and naming bits, with questions 25 to 28, and what any such building leads to.
 use Rattle.std.specs.Prelude.{ℕ, ◌+◌, ◌-◌, ◌^◌, ◌<◌, Bool, false, cond, not, ◌&&◌, List, [], ◌∷◌, ◌++◌, length, replicate, Some, None, Option, ◌==◌, bit_and, bit_or, nat_lt, slice_index, slice_index_or, slice_set}
 use Rattle.base.specs.declared.refusal.Refusal.{Refusal}
+use Rattle.base.specs.declared.question.Question.TheVariants as Q
 use Rattle.base.specs.Answers.{Answer, refused, gives, ask, bind, no_layout}
 use Rattle.base.specs.Octets.{bit}
 use Rattle.layout.specs.declared.entry.RawEntry.{RawEntry}
@@ -32,9 +33,9 @@ may_hang_on m x (governed_by g b) =
 unfoldable pub may_add : ℕ → Meaning → Extras → RawEntry → Answer ItemMeaning
 may_add o m x e =
     bind (lawful o m) (λ _.
-    item_or (entry_accepted e) (no_layout 3 25 (count_all m x)) (λ i.
-    ask (nat_lt (length x.added) 16 && nat_lt (count_all m x) 64) (no_layout 3 26 (count_all m x))
-    (ask (may_hang_on m x i.governor) (no_layout 3 27 e.item.governor)
+    item_or (entry_accepted e) (no_layout 3 Q.Entry (count_all m x)) (λ i.
+    ask (nat_lt (length x.added) 16 && nat_lt (count_all m x) 64) (no_layout 3 Q.Space (count_all m x))
+    (ask (may_hang_on m x i.governor) (no_layout 3 Q.AddedGovernor e.item.governor)
     (gives i))))
 
 -- bits named at a place below
@@ -74,7 +75,7 @@ may_name m j bits =
     && (is_bits (item_at m.items j).kind && (not (bits == 0) && bit_and bits (item_at m.items j).mask == 0))
 
 unfoldable pub may_name_bits : ℕ → Meaning → ℕ → ℕ → Answer (Unit {0})
-may_name_bits o m j bits = bind (lawful o m) (λ _. ask (may_name m j bits) (no_layout 3 28 j) (gives tt))
+may_name_bits o m j bits = bind (lawful o m) (λ _. ask (may_name m j bits) (no_layout 3 Q.SpareBits j) (gives tt))
 
 -- naming bits, by the answer to its questions
 abbrev pub named_by : Extras → ℕ → ℕ → Answer (Unit {0}) → Answer Extras

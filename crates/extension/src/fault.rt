@@ -4,7 +4,8 @@ ghost use Rattle.extension.specs.declared.fault.BuildFault.TheVariants.{Below as
 ghost use Rattle.extension.specs.Faults.{build_refusal};
 
 use crate::origin::EXTENSION;
-use base::refusal::{Layer, Refusal};
+use base::question::Question;
+use base::refusal::Refusal;
 use layout::fault::LayoutFault;
 
 /// A no to one of the questions 1 to 3 of the layout below, or to one of 25 to 28.
@@ -30,21 +31,20 @@ impl From<LayoutFault> for BuildFault {
     }
 }
 
-impl BuildFault {
-    /// The number, layer, place and origin of the refusal.
-    pub fn refusal(&self) -> Refusal
-        ensures { result ≡ build_refusal self.now }
-    {
-        let (number, place) = match *self {
-            BuildFault::Below(fault) => return fault.refusal(),
-            BuildFault::Entry { item } => (25, item),
-            BuildFault::Space { count } => (26, count),
-            BuildFault::Governor { governor } => (27, governor as usize),
-            BuildFault::Bits { item } => (28, item),
+/// The question, the place and the origin.
+impl From<BuildFault> for Refusal {
+    ghost from_gives = { λ fault refusal. refusal ≡ build_refusal fault };
+
+    fn from(fault: BuildFault) -> Refusal {
+        let (question, place) = match fault {
+            BuildFault::Below(cause) => return cause.into(),
+            BuildFault::Entry { item } => (Question::Entry, item),
+            BuildFault::Space { count } => (Question::Space, count),
+            BuildFault::Governor { governor } => (Question::AddedGovernor, governor as usize),
+            BuildFault::Bits { item } => (Question::SpareBits, item),
         };
         Refusal {
-            number,
-            layer: Layer::Layout,
+            question,
             place,
             origin: Some(EXTENSION),
         }

@@ -5,7 +5,8 @@ use mir.Val.{bool_byte}
 use Rattle.std.specs.List.{slice_get}
 use Rattle.std.proofs.lemmas.List.{take_more_set, map_push, drop_all, take_rest}
 use Rattle.std.proofs.lemmas.Bool.{le-leb, lt-leb}
-use Rattle.base.specs.Answers.{refused, gives, ask, no_frame}
+use Rattle.base.specs.declared.question.Question.TheVariants as Q
+use Rattle.base.specs.Answers.{refused, gives, ask, no_to}
 use Rattle.base.specs.Octets.{big_endian}
 use Rattle.base.proofs.Asking.{ask_yes, ask_no, bind_gives, bind_refused}
 use Rattle.layout.specs.declared.item.Item.{Item}
@@ -31,8 +32,8 @@ pub record Along (is : List ItemMeaning) (p₀ : ℕ) (o : List ℕ) (i : ℕ) (
 pub next_item : (is : List ItemMeaning) (i p : ℕ) (seen : List (List ℕ)) (os rest : List ℕ) (x : Item) (n : ℕ)
     → os ≡ map last_octet seen → Some (meant x) ≡ slice_get is i → n ≡ size_by_octets (meant x) os
     → cut_from (drop i is) seen p rest
-    ≡ ask (leb n (length rest)) (no_frame 12 p)
-    (ask (within (meant x) (take n rest)) (no_frame 13 p)
+    ≡ ask (leb n (length rest)) (no_to Q.ItemFits p)
+    (ask (within (meant x) (take n rest)) (no_to Q.Limit p)
     (cut_from (drop (suc i) is) (seen ++ take n rest ∷ []) (p + n) (drop n rest)))
 unfolding cut_from
 next_item is i p seen os rest x n v e s =
@@ -40,8 +41,8 @@ next_item is i p seen os rest x n v e s =
     ap (λ (l : List ItemMeaning). cut_from l seen p rest) (drop_at_nth is i (meant x) e)
     ∙ ap
     (λ (m : ℕ).
-    ask (leb m (length rest)) (no_frame 12 p)
-    (ask (within (meant x) (take m rest)) (no_frame 13 p)
+    ask (leb m (length rest)) (no_to Q.ItemFits p)
+    (ask (within (meant x) (take m rest)) (no_to Q.Limit p)
     (cut_from (drop (suc i) is) (seen ++ take m rest ∷ []) (p + m) (drop m rest))))
     z
 
@@ -52,14 +53,14 @@ module _ (is : List ItemMeaning) (p₀ : ℕ) (o : List ℕ) where
   module _ (i : ℕ) (os : List ℕ) (many p : ℕ) (rest : List ℕ) (x : Item) (n : ℕ) (a : Along is p₀ o i os many p rest)
       (e : Some (meant x) ≡ slice_get is i) (s : n ≡ size_by_octets (meant x) (take (i - 0) os)) where
     next : cut_from is [] p₀ o
-        ≡ ask (leb n (length rest)) (no_frame 12 p)
-        (ask (within (meant x) (take n rest)) (no_frame 13 p)
+        ≡ ask (leb n (length rest)) (no_to Q.ItemFits p)
+        (ask (within (meant x) (take n rest)) (no_to Q.Limit p)
         (cut_from (drop (suc i) is) (a.seen ++ take n rest ∷ []) (p + n) (drop n rest)))
     next =
         a.same
         ∙ next_item is i p a.seen (take i os) rest x n a.octets e (s ∙ ap (λ (k : ℕ). size_by_octets (meant x) (take k os)) (sub-zero i))
 
-    pub along_short : length rest < n → refused (no_frame 12 p) ≡ surveyed (cut_from is [] p₀ o)
+    pub along_short : length rest < n → refused (no_to Q.ItemFits p) ≡ surveyed (cut_from is [] p₀ o)
     unfolding surveyed
     along_short h = sym (bind_refused _ _ _ (next ∙ ask_no _ _ _ (lt-leb n (length rest) h)))
 
@@ -70,14 +71,14 @@ module _ (is : List ItemMeaning) (p₀ : ℕ) (o : List ℕ) where
 
       fitting : (b : Bool) → b ≡ within_number (meant x).kind x.limit v
           → cut_from is [] p₀ o
-          ≡ ask b (no_frame 13 p) (cut_from (drop (suc i) is) (a.seen ++ take n rest ∷ []) (p + n) (drop n rest))
+          ≡ ask b (no_to Q.Limit p) (cut_from (drop (suc i) is) (a.seen ++ take n rest ∷ []) (p + n) (drop n rest))
       fitting b w =
           next
           ∙ ask_yes _ _ _ (le-leb n (length rest) h)
-          ∙ ap (λ (t : Bool). ask t (no_frame 13 p) (cut_from (drop (suc i) is) (a.seen ++ take n rest ∷ []) (p + n) (drop n rest)))
+          ∙ ap (λ (t : Bool). ask t (no_to Q.Limit p) (cut_from (drop (suc i) is) (a.seen ++ take n rest ∷ []) (p + n) (drop n rest)))
           (within_is (meant x).kind x.limit (take n rest) ∙ sym (w ∙ ap (within_number (meant x).kind x.limit) value_is))
 
-      pub along_over : false ≡ within_number (meant x).kind x.limit v → refused (no_frame 13 p) ≡ surveyed (cut_from is [] p₀ o)
+      pub along_over : false ≡ within_number (meant x).kind x.limit v → refused (no_to Q.Limit p) ≡ surveyed (cut_from is [] p₀ o)
       unfolding surveyed
       along_over w = sym (bind_refused _ _ _ (fitting false w ∙ ask_no _ _ _ refl))
 

@@ -5,7 +5,8 @@ use lib.ListN.{length-map}
 use Rattle.std.specs.List.{slice_get}
 use Rattle.std.proofs.lemmas.List.{take_more_set, drop_all, take_rest, take_at, take-take, drop-drop, drop-set-lt, map-append}
 use Rattle.std.proofs.lemmas.Bool.{leb-true}
-use Rattle.base.specs.Answers.{Answer, gives, ask, no_frame}
+use Rattle.base.specs.declared.question.Question.TheVariants as Q
+use Rattle.base.specs.Answers.{Answer, gives, ask, no_to}
 use Rattle.base.specs.Octets.{big_endian}
 use Rattle.base.proofs.Asking.{asked_yes, gives_inj}
 use Rattle.layout.specs.declared.item.Item.{Item}
@@ -74,13 +75,13 @@ module _ (is : List ItemMeaning) (p₀ : ℕ) (o : List ℕ) (t₀ : List Row) w
         map-front a b k h = ap (take k) (map-append last_octet a b) ∙ take_at (map last_octet a) (map last_octet b) k (length-map a last_octet ∙ h)
 
     step : cut_from (drop i is) f.seen p rest
-        ≡ ask (leb n (length rest)) (no_frame 12 p)
-        (ask (within (meant x) (take n rest)) (no_frame 13 p)
+        ≡ ask (leb n (length rest)) (no_to Q.ItemFits p)
+        (ask (within (meant x) (take n rest)) (no_to Q.Limit p)
         (cut_from (drop (suc i) is) (f.seen ++ take n rest ∷ []) (p + n) (drop n rest)))
     step = next_item is i p f.seen (take i os) rest x n octets_so_far e (z ∙ ap (λ (k : ℕ). size_by_octets (meant x) (take k os)) (sub-zero i))
 
     asked_12 : (leb n (length rest) ≡ true)
-        × (ask (within (meant x) (take n rest)) (no_frame 13 p) (cut_from (drop (suc i) is) (f.seen ++ take n rest ∷ []) (p + n) (drop n rest)) ≡ gives s.parts)
+        × (ask (within (meant x) (take n rest)) (no_to Q.Limit p) (cut_from (drop (suc i) is) (f.seen ++ take n rest ∷ []) (p + n) (drop n rest)) ≡ gives s.parts)
     asked_12 = asked_yes _ _ _ _ (sym step ∙ ends)
 
     pub fits : n ≤ length rest

@@ -2,7 +2,8 @@
 use Rattle.std.proofs.Common.{◌≡◌, ℕ, ◌+◌, ◌/◌, ◌<◌, ◌≤◌, List, [], map, length, get_or, sym, refl, ap, ◌∙◌, subst}
 use Rattle.std.proofs.lemmas.Bool.{eq-eqb, eqb-true, ne_eqb, le-leb, lt-leb}
 use Rattle.base.specs.declared.refusal.Refusal.{Refusal}
-use Rattle.base.specs.Answers.{Answer, refused, gives, bind, no_frame, no_call}
+use Rattle.base.specs.declared.question.Question.TheVariants as Q
+use Rattle.base.specs.Answers.{Answer, refused, gives, bind, no_to}
 use Rattle.base.proofs.Asking.{never, gives_inj, ask_yes, ask_no, asked_yes, bind_gives, bind_refused, bound}
 use Rattle.layout.specs.Items.{Meaning}
 use Rattle.layout.specs.Questions.{lawful}
@@ -15,7 +16,7 @@ use Rattle.frame.specs.Reading.{Opened, opened_packet, opened_for_read, read_tol
 use Rattle.frame.specs.Views.{FoundSurveyed, gathered_packet}
 
 module _ (m : Meaning) (p : ℕ) (o : List ℕ) (v t : ℕ) (e : v ≡ get_or o 0 0) (f : t ≡ m.pdu_type) where
-  pub other_type : (v / 16 ≡ t → ⊥) → refused (no_frame 11 p) ≡ surveyed (cut_frame m p o)
+  pub other_type : (v / 16 ≡ t → ⊥) → refused (no_to Q.PduType p) ≡ surveyed (cut_frame m p o)
   unfolding surveyed cut_frame
   other_type un =
       sym (bind_refused _ _ _ (ask_no _ _ _ (ne_eqb (get_or o 0 0 / 16) m.pdu_type (λ h. un (ap (λ (k : ℕ). k / 16) e ∙ h ∙ sym f)))))
@@ -83,7 +84,7 @@ module _ (o : ℕ) (m : Meaning) (k : ℕ) (b : List ℕ) (n : ℕ) where
   read_no_layout r e = bind_refused _ _ r (sym e)
 
   module _ (e : gives tt ≡ lawful o m) where
-    pub read_no_rows : k < length m.items → opened_for_read o m k b n ≡ refused (no_call 4 k)
+    pub read_no_rows : k < length m.items → opened_for_read o m k b n ≡ refused (no_to Q.TableRows k)
     unfolding opened_for_read
     read_no_rows h = bind_gives _ _ tt (sym e) ∙ ask_no _ _ _ (lt-leb (length m.items) k h)
 

@@ -1,6 +1,7 @@
 -- The refusal that each fault is.
 use Rattle.base.specs.declared.refusal.Refusal.{Refusal}
-use Rattle.base.specs.Answers.{no_frame, no_call}
+use Rattle.base.specs.declared.question.Question.TheVariants as Q
+use Rattle.base.specs.Answers.{no_to}
 use Rattle.layout.specs.Faults.{layout_refusal}
 use Rattle.packet.specs.Faults.{packet_refusal}
 use Rattle.frame.specs.declared.fault.FrameFault.{FrameFault}
@@ -11,10 +12,10 @@ use Rattle.frame.specs.declared.fault.ReadFault.TheVariants.{Frame, Rows}
 abbrev pub frame_refusal : FrameFault → Refusal
 frame_refusal (Layout f) = layout_refusal f
 frame_refusal (Packet f) = packet_refusal f
-frame_refusal (PduType p) = no_frame 11 p
-frame_refusal (Short p) = no_frame 12 p
-frame_refusal (Limit p) = no_frame 13 p
+frame_refusal (PduType p) = no_to Q.PduType p
+frame_refusal (Short p) = no_to Q.ItemFits p
+frame_refusal (Limit p) = no_to Q.Limit p
 
 abbrev pub read_refusal : ReadFault → Refusal
 read_refusal (Frame f) = frame_refusal f
-read_refusal (Rows k) = no_call 4 k
+read_refusal (Rows k) = no_to Q.TableRows k

@@ -1,7 +1,8 @@
 -- A frame as the pieces of its items, one after another, and the tail behind them.
 -- A piece is the octets of one item; an absent item has none.
 use Rattle.std.specs.Prelude.{ℕ, ◌+◌, ◌/◌, Bool, true, cond, List, [], ◌∷◌, ◌++◌, length, take, drop, ◌==◌, nat_le, slice_index, slice_index_or}
-use Rattle.base.specs.Answers.{Answer, gives, ask, no_frame}
+use Rattle.base.specs.declared.question.Question.TheVariants as Q
+use Rattle.base.specs.Answers.{Answer, gives, ask, no_to}
 use Rattle.base.specs.Octets.{bit, big_endian}
 use Rattle.layout.specs.Items.{ItemKind, bits_octet, a_number, ItemGovernor, ungoverned, governed_by, ItemMeaning, Meaning}
 
@@ -40,10 +41,10 @@ pub record Cut : Type 0 where
 unfoldable pub cut_from : List ItemMeaning → List (List ℕ) → ℕ → List ℕ → Answer Cut
 cut_from [] seen p o = gives (record { pieces = seen; tail = o })
 cut_from (i ∷ is) seen p o =
-    ask (nat_le (size_of i seen) (length o)) (no_frame 12 p)
-    (ask (within i (take (size_of i seen) o)) (no_frame 13 p)
+    ask (nat_le (size_of i seen) (length o)) (no_to Q.ItemFits p)
+    (ask (within i (take (size_of i seen) o)) (no_to Q.Limit p)
     (cut_from is (seen ++ take (size_of i seen) o ∷ []) (p + size_of i seen) (drop (size_of i seen) o)))
 
 -- questions 11 to 13 of a frame o at place p
 unfoldable pub cut_frame : Meaning → ℕ → List ℕ → Answer Cut
-cut_frame m p o = ask (slice_index o 0 / 16 == m.pdu_type) (no_frame 11 p) (cut_from m.items [] p o)
+cut_frame m p o = ask (slice_index o 0 / 16 == m.pdu_type) (no_to Q.PduType p) (cut_from m.items [] p o)

@@ -1,6 +1,7 @@
 -- What read answers: questions 1 to 13, and then a row for each item.
 use Rattle.std.specs.Prelude.{ℕ, ◌+◌, List, length, nat_le}
-use Rattle.base.specs.Answers.{Answer, refused, gives, ask, bind, no_call}
+use Rattle.base.specs.declared.question.Question.TheVariants as Q
+use Rattle.base.specs.Answers.{Answer, refused, gives, ask, bind, no_to}
 use Rattle.layout.specs.Items.{Meaning}
 use Rattle.layout.specs.Questions.{lawful}
 use Rattle.packet.specs.Containers.{Located, container}
@@ -21,7 +22,7 @@ opened_packet m buffer n =
 -- questions 1 to 13, by a layout of origin o and a table of k rows
 unfoldable pub opened_for_read : ℕ → Meaning → ℕ → List ℕ → ℕ → Answer Opened
 opened_for_read o m k buffer n =
-    bind (lawful o m) (λ _. ask (nat_le (length m.items) k) (no_call 4 k) (opened_packet m buffer n))
+    bind (lawful o m) (λ _. ask (nat_le (length m.items) k) (no_to Q.TableRows k) (opened_packet m buffer n))
 
 -- what read hands out besides the rows: how many items are present, the tail, the inner packet
 pub record Told : Type 0 where

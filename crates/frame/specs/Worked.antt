@@ -1,6 +1,7 @@
 -- Frames worked through: what the published layouts read in them. Each frame starts at octet 13 of its packet.
 use Rattle.std.specs.Prelude.{◌≡◌, ℕ, Bool, true, false, List, [], ◌∷◌}
-use Rattle.base.specs.Answers.{Answer, refused, gives, bind, no_frame}
+use Rattle.base.specs.declared.question.Question.TheVariants as Q
+use Rattle.base.specs.Answers.{Answer, refused, gives, bind, no_to}
 use Rattle.layout.specs.declared.table.Published.TheVariants.{Dl16, Ul163, Ul19}
 use Rattle.layout.specs.Items.{Meaning}
 use Rattle.layout.specs.Tables.{published_meaning}
@@ -44,7 +45,7 @@ pub record WorkedFrames : Type 0 where
         is_plain = false;
       })
   -- UL 19: 10001 is over the limit of UCI, and 10000 is not
-  pub over_limit : view (published_meaning Ul19) (0x10 ∷ 0x45 ∷ 0x02 ∷ 0x27 ∷ 0x11 ∷ 0x00 ∷ []) ≡ refused (no_frame 13 16)
+  pub over_limit : view (published_meaning Ul19) (0x10 ∷ 0x45 ∷ 0x02 ∷ 0x27 ∷ 0x11 ∷ 0x00 ∷ []) ≡ refused (no_to Q.Limit 16)
   pub at_limit : view (published_meaning Ul19) (0x10 ∷ 0x45 ∷ 0x02 ∷ 0x27 ∷ 0x10 ∷ 0x00 ∷ [])
       ≡ gives (record {
         rows = row_at 13 16 ∷ row_at 14 69 ∷ absent ∷ absent ∷ absent ∷ absent ∷ absent ∷ absent ∷ absent

@@ -4,7 +4,8 @@ ghost use Rattle.frame.specs.declared.fault.FrameFault.TheVariants.{Layout as of
 ghost use Rattle.frame.specs.declared.fault.ReadFault.TheVariants.{Frame as of-frame};
 ghost use Rattle.frame.specs.Faults.{frame_refusal, read_refusal};
 
-use base::refusal::{Layer, Refusal};
+use base::question::Question;
+use base::refusal::Refusal;
 use layout::fault::LayoutFault;
 use packet::fault::PacketFault;
 
@@ -53,37 +54,35 @@ impl From<FrameFault> for ReadFault {
     }
 }
 
-impl FrameFault {
-    /// The number, layer and place of the refusal, and the origin where a layout was asked.
-    pub fn refusal(&self) -> Refusal
-        ensures { result ≡ frame_refusal self.now }
-    {
-        let (number, place) = match *self {
-            FrameFault::Layout(f) => return f.refusal(),
-            FrameFault::Packet(f) => return f.refusal(),
-            FrameFault::PduType { place } => (11, place),
-            FrameFault::Short { place } => (12, place),
-            FrameFault::Limit { place } => (13, place),
+/// The question and the place, and the origin where a layout was asked.
+impl From<FrameFault> for Refusal {
+    ghost from_gives = { λ fault refusal. refusal ≡ frame_refusal fault };
+
+    fn from(fault: FrameFault) -> Refusal {
+        let (question, place) = match fault {
+            FrameFault::Layout(f) => return f.into(),
+            FrameFault::Packet(f) => return f.into(),
+            FrameFault::PduType { place } => (Question::PduType, place),
+            FrameFault::Short { place } => (Question::ItemFits, place),
+            FrameFault::Limit { place } => (Question::Limit, place),
         };
         Refusal {
-            number,
-            layer: Layer::Frame,
+            question,
             place,
             origin: None,
         }
     }
 }
 
-impl ReadFault {
-    /// The number, layer and place of the refusal, and the origin where a layout was asked.
-    pub fn refusal(&self) -> Refusal
-        ensures { result ≡ read_refusal self.now }
-    {
-        match *self {
-            ReadFault::Frame(f) => f.refusal(),
+/// The question and the place, and the origin where a layout was asked.
+impl From<ReadFault> for Refusal {
+    ghost from_gives = { λ fault refusal. refusal ≡ read_refusal fault };
+
+    fn from(fault: ReadFault) -> Refusal {
+        match fault {
+            ReadFault::Frame(f) => f.into(),
             ReadFault::Rows { count } => Refusal {
-                number: 4,
-                layer: Layer::Call,
+                question: Question::TableRows,
                 place: count,
                 origin: None,
             },

@@ -1,6 +1,7 @@
 -- Questions 1 to 3 one after another, by what the code finds, and what a yes to them says.
 use Rattle.std.proofs.Common.{◌≡◌, ℕ, ◌≤◌, Bool, true, false, ◌&&◌, leb, length, sym, refl, ap, ◌∙◌, ap₂}
 use Rattle.std.proofs.lemmas.Bool.{eq-eqb, ne_eqb, eqb-true, leb-true, le-leb, and_parts, and_from}
+use Rattle.base.specs.declared.question.Question.TheVariants as Q
 use Rattle.base.specs.Answers.{refused, gives, no_layout}
 use Rattle.base.proofs.Asking.{ask_yes, ask_no, asked_yes}
 use Rattle.layout.specs.Items.{Meaning, item_at}
@@ -10,20 +11,20 @@ module _ (m : Meaning) (o s n : ℕ) (e : o ≡ s) (c : n ≡ length m.items) wh
   counted : (b : Bool) → b ≡ (leb 1 n && leb n 64) → (leb 1 (length m.items) && leb (length m.items) 64) ≡ b
   counted b h = sym (h ∙ ap (λ (k : ℕ). leb 1 k && leb k 64) c)
 
-  pub refused_1 : false ≡ (leb 1 n && leb n 64) → refused (no_layout o 1 n) ≡ lawful s m
+  pub refused_1 : false ≡ (leb 1 n && leb n 64) → refused (no_layout o Q.ItemCount n) ≡ lawful s m
   unfolding lawful
-  refused_1 h = ap₂ (λ (x y : ℕ). refused (no_layout x 1 y)) e c ∙ sym (ask_no _ _ _ (counted false h))
+  refused_1 h = ap₂ (λ (x y : ℕ). refused (no_layout x Q.ItemCount y)) e c ∙ sym (ask_no _ _ _ (counted false h))
 
   module _ (h : true ≡ (leb 1 n && leb n 64)) where
-    pub refused_2 : false ≡ may_lead (item_at m.items 0) → refused (no_layout o 2 0) ≡ lawful s m
+    pub refused_2 : false ≡ may_lead (item_at m.items 0) → refused (no_layout o Q.FirstItem 0) ≡ lawful s m
     unfolding lawful
-    refused_2 f = ap (λ (x : ℕ). refused (no_layout x 2 0)) e ∙ sym (ask_yes _ _ _ (counted true h) ∙ ask_no _ _ _ (sym f))
+    refused_2 f = ap (λ (x : ℕ). refused (no_layout x Q.FirstItem 0)) e ∙ sym (ask_yes _ _ _ (counted true h) ∙ ask_no _ _ _ (sym f))
 
     module _ (f : true ≡ may_lead (item_at m.items 0)) (i : ℕ) (q : i ≡ first_misfit m.items) where
-      pub refused_3 : (i ≡ n → ⊥) → refused (no_layout o 3 i) ≡ lawful s m
+      pub refused_3 : (i ≡ n → ⊥) → refused (no_layout o Q.Governors i) ≡ lawful s m
       unfolding lawful
       refused_3 u =
-          ap₂ (λ (x y : ℕ). refused (no_layout x 3 y)) e q
+          ap₂ (λ (x y : ℕ). refused (no_layout x Q.Governors y)) e q
           ∙ sym
           (ask_yes _ _ _ (counted true h)
           ∙ ask_yes _ _ _ (sym f)

@@ -1,5 +1,6 @@
 -- Questions 1 to 3, which are put to every layout before it is used.
 use Rattle.std.specs.Prelude.{ℕ, suc, ◌/◌, Bool, true, not, ◌&&◌, List, [], ◌∷◌, length, ◌==◌, nat_le, nat_lt}
+use Rattle.base.specs.declared.question.Question.TheVariants as Q
 use Rattle.base.specs.Answers.{Answer, gives, ask, first_no, no_layout}
 use Rattle.base.specs.Octets.{bit}
 use Rattle.layout.specs.Items.{ItemGovernor, ungoverned, governed_by, ItemMeaning, Meaning, is_bits, is_free, item_at}
@@ -26,7 +27,7 @@ first_misfit is = first_no (governors_fit is 0 is)
 -- questions 1 to 3 of a layout of origin o
 unfoldable pub lawful : ℕ → Meaning → Answer (Unit {0})
 lawful o m =
-    ask (nat_le 1 (length m.items) && nat_le (length m.items) 64) (no_layout o 1 (length m.items))
-    (ask (may_lead (item_at m.items 0)) (no_layout o 2 0)
-    (ask (first_misfit m.items == length m.items) (no_layout o 3 (first_misfit m.items))
+    ask (nat_le 1 (length m.items) && nat_le (length m.items) 64) (no_layout o Q.ItemCount (length m.items))
+    (ask (may_lead (item_at m.items 0)) (no_layout o Q.FirstItem 0)
+    (ask (first_misfit m.items == length m.items) (no_layout o Q.Governors (first_misfit m.items))
     (gives tt)))

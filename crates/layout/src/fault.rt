@@ -2,7 +2,8 @@
 ghost use Rattle.std.specs.Prelude.{◌≡◌};
 ghost use Rattle.layout.specs.Faults.{layout_refusal};
 
-use base::refusal::{Layer, Refusal};
+use base::question::Question;
+use base::refusal::Refusal;
 
 /// A no to one of the questions 1 to 3.
 #[derive(Clone, Copy, PartialEq, Eq, Debug)]
@@ -15,19 +16,18 @@ pub enum LayoutFault {
     Governor { origin: u8, item: usize },
 }
 
-impl LayoutFault {
-    /// The number, layer, place and origin of the refusal.
-    pub fn refusal(&self) -> Refusal
-        ensures { result ≡ layout_refusal self.now }
-    {
-        let (origin, number, place) = match *self {
-            LayoutFault::Count { origin, count } => (origin, 1, count),
-            LayoutFault::First { origin } => (origin, 2, 0),
-            LayoutFault::Governor { origin, item } => (origin, 3, item),
+/// The question, the place and the origin.
+impl From<LayoutFault> for Refusal {
+    ghost from_gives = { λ fault refusal. refusal ≡ layout_refusal fault };
+
+    fn from(fault: LayoutFault) -> Refusal {
+        let (origin, question, place) = match fault {
+            LayoutFault::Count { origin, count } => (origin, Question::ItemCount, count),
+            LayoutFault::First { origin } => (origin, Question::FirstItem, 0),
+            LayoutFault::Governor { origin, item } => (origin, Question::Governors, item),
         };
         Refusal {
-            number,
-            layer: Layer::Layout,
+            question,
             place,
             origin: Some(origin),
         }

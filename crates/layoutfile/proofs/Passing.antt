@@ -4,6 +4,7 @@ use lib.ListN.{length-map}
 use Rattle.std.specs.List.{slice_get}
 use Rattle.std.specs.Option.{option_map}
 use Rattle.std.proofs.lemmas.Bool.{eq-eqb, ne_eqb, eqb-true, leb-true, and_parts}
+use Rattle.base.specs.declared.question.Question.TheVariants as Q
 use Rattle.base.specs.Answers.{Answer, refused, gives, no_layout}
 use Rattle.base.proofs.Asking.{ask_yes, ask_no, asked_yes}
 use Rattle.layout.specs.declared.entry.RawEntry.{RawEntry}
@@ -16,20 +17,20 @@ use Rattle.layoutfile.specs.Files.{stated_type, stated_count, starts_well, well_
 use Rattle.layoutfile.proofs.Sixteens.{length-entries, nth-entries, call, length_items, nth_items, mapped_twice, nth_of_map}
 
 module _ (os : List ℕ) where
-  pub refused_23 : false ≡ starts_well os → refused (no_layout 2 23 0) ≡ file_questions os
+  pub refused_23 : false ≡ starts_well os → refused (no_layout 2 Q.FileStart 0) ≡ file_questions os
   unfolding file_questions
   refused_23 h = sym (ask_no _ _ _ (sym h))
 
   module _ (s : true ≡ starts_well os) where
-    pub refused_24 : false ≡ well_sized os → refused (no_layout 2 24 5) ≡ file_questions os
+    pub refused_24 : false ≡ well_sized os → refused (no_layout 2 Q.FileSize 5) ≡ file_questions os
     unfolding file_questions
     refused_24 h = sym (ask_yes _ _ _ (sym s) ∙ ask_no _ _ _ (sym h))
 
     module _ (w : true ≡ well_sized os) (i : ℕ) (q : i ≡ first_no_item (entries os)) where
-      pub refused_25 : (i ≡ stated_count os → ⊥) → refused (no_layout 2 25 i) ≡ file_questions os
+      pub refused_25 : (i ≡ stated_count os → ⊥) → refused (no_layout 2 Q.Entry i) ≡ file_questions os
       unfolding file_questions
       refused_25 u =
-          ap (λ (n : ℕ). refused (no_layout 2 25 n)) q
+          ap (λ (n : ℕ). refused (no_layout 2 Q.Entry n)) q
           ∙ sym
           (ask_yes _ _ _ (sym s)
           ∙ ask_yes _ _ _ (sym w)

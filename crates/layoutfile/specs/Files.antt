@@ -1,5 +1,6 @@
 -- Layout files: the entries that octets write down, questions 23 to 25, and what a file means.
 use Rattle.std.specs.Prelude.{ℕ, zero, suc, ◌+◌, ◌*◌, Bool, ◌&&◌, List, [], ◌∷◌, map, length, take, drop, is_some, Some, None, Option, ◌==◌, nat_le, slice_index}
+use Rattle.base.specs.declared.question.Question.TheVariants as Q
 use Rattle.base.specs.Answers.{Answer, refused, gives, ask, first_no, no_layout}
 use Rattle.base.specs.Octets.{big_endian}
 use Rattle.layout.specs.declared.entry.RawEntry.{RawEntry}
@@ -60,9 +61,9 @@ first_no_item es = first_no (map is_item es)
 -- questions 23 to 25 of a file
 unfoldable pub file_questions : List ℕ → Answer (Unit {0})
 file_questions os =
-    ask (starts_well os) (no_layout 2 23 0)
-    (ask (well_sized os) (no_layout 2 24 5)
-    (ask (first_no_item (entries os) == length (entries os)) (no_layout 2 25 (first_no_item (entries os)))
+    ask (starts_well os) (no_layout 2 Q.FileStart 0)
+    (ask (well_sized os) (no_layout 2 Q.FileSize 5)
+    (ask (first_no_item (entries os) == length (entries os)) (no_layout 2 Q.Entry (first_no_item (entries os)))
     (gives tt)))
 
 -- the named items that entries are, in their order

@@ -3,7 +3,8 @@ ghost use Rattle.std.specs.Prelude.{◌≡◌};
 ghost use Rattle.layoutfile.specs.Faults.{file_refusal};
 
 use crate::origin::FILE;
-use base::refusal::{Layer, Refusal};
+use base::question::Question;
+use base::refusal::Refusal;
 
 /// A no to one of the questions 23 to 25.
 #[derive(Clone, Copy, PartialEq, Eq, Debug)]
@@ -16,19 +17,18 @@ pub enum FileFault {
     Entry { entry: usize },
 }
 
-impl FileFault {
-    /// The number, layer, place and origin of the refusal.
-    pub fn refusal(&self) -> Refusal
-        ensures { result ≡ file_refusal self.now }
-    {
-        let (number, place) = match *self {
-            FileFault::Start => (23, 0),
-            FileFault::Size => (24, 5),
-            FileFault::Entry { entry } => (25, entry),
+/// The question, the place and the origin.
+impl From<FileFault> for Refusal {
+    ghost from_gives = { λ fault refusal. refusal ≡ file_refusal fault };
+
+    fn from(fault: FileFault) -> Refusal {
+        let (question, place) = match fault {
+            FileFault::Start => (Question::FileStart, 0),
+            FileFault::Size => (Question::FileSize, 5),
+            FileFault::Entry { entry } => (Question::Entry, entry),
         };
         Refusal {
-            number,
-            layer: Layer::Layout,
+            question,
             place,
             origin: Some(FILE),
         }

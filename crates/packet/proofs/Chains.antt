@@ -3,7 +3,8 @@ use Rattle.std.proofs.Common.{◌≡◌, ℕ, zero, suc, ◌+◌, ◌-◌, ◌*�
 use Rattle.std.proofs.lemmas.List.{take-append-drop, take_at}
 use Rattle.std.proofs.lemmas.List.Edits.{length-between}
 use Rattle.std.proofs.lemmas.Bool.{cases_Bool, cases_eq, eq-eqb, ne_eqb}
-use Rattle.base.specs.Answers.{refused, gives, ask, bind, no_packet}
+use Rattle.base.specs.declared.question.Question.TheVariants as Q
+use Rattle.base.specs.Answers.{refused, gives, ask, bind, no_to}
 use Rattle.base.proofs.Asking.{never, gives_inj, ask_yes, ask_no, bind_gives, bound}
 use Rattle.packet.specs.Chains.{HeaderMeaning, header_size, header_content, next_type, behind, header_at, header_fits}
 use Rattle.packet.specs.Chains.{Chain, before, chain_from, chain_of}
@@ -18,19 +19,19 @@ chain_ends turns t p o z = rw (eq-eqb t 0 z, chain_from)
 module _ (turns t p : ℕ) (o : List ℕ) (some : t ≡ 0 → ⊥) where
   chain_asks
       : chain_from (suc turns) t p o
-      ≡ ask (header_fits o) (no_packet 9 p)
+      ≡ ask (header_fits o) (no_to Q.Header p)
       (bind (chain_from turns (next_type o) (p + header_size o) (behind o)) (λ c. gives (before (header_at t p o) c)))
   unfolding chain_from
   chain_asks = rw (ne_eqb t 0 some, chain_from)
 
-  pub chain_stops : header_fits o ≡ false → chain_from (suc turns) t p o ≡ refused (no_packet 9 p)
-  chain_stops f = chain_asks ∙ ask_no (header_fits o) (no_packet 9 p) _ f
+  pub chain_stops : header_fits o ≡ false → chain_from (suc turns) t p o ≡ refused (no_to Q.Header p)
+  chain_stops f = chain_asks ∙ ask_no (header_fits o) (no_to Q.Header p) _ f
 
   pub chain_goes_on
       : header_fits o ≡ true
       → chain_from (suc turns) t p o
       ≡ bind (chain_from turns (next_type o) (p + header_size o) (behind o)) (λ c. gives (before (header_at t p o) c))
-  chain_goes_on f = chain_asks ∙ ask_yes (header_fits o) (no_packet 9 p) _ f
+  chain_goes_on f = chain_asks ∙ ask_yes (header_fits o) (no_to Q.Header p) _ f
 
 -- headers in place at the front of the octets o, which stand at p, and where they end
 pub record Laid (t p : ℕ) (o : List ℕ) (c : Chain) : Type 0 where

@@ -5,7 +5,8 @@ use Rattle.std.specs.List.{AllByRecursion as All}
 use Rattle.std.proofs.lemmas.List.{drop-drop, get_or-drop, length-take-le, take_at}
 use Rattle.std.proofs.lemmas.Bool.Decides.{nat_tests}
 use Rattle.base.specs.declared.refusal.Refusal.{Refusal}
-use Rattle.base.specs.Answers.{Answer, refused, gives, bind, no_packet}
+use Rattle.base.specs.declared.question.Question.TheVariants as Q
+use Rattle.base.specs.Answers.{Answer, refused, gives, bind, no_to}
 use Rattle.base.proofs.Asking.{never, gives_inj, ask_yes, asked_yes, bind_gives, bind_refused, bound}
 use Rattle.packet.specs.Chains.{HeaderMeaning, Chain, chain_of}
 use Rattle.packet.specs.Containers.{Located, is_container, no_second, only_container, located_at}
@@ -30,7 +31,7 @@ module _ (b : List ℕ) (n : ℕ) (least : 12 ≤ n) (most : n ≤ 9216) (held :
   unfolding container located
   container_by_walk =
       let k = take (n - 0) b in
-      ask_yes (count_right b n) (no_packet 5 n) (located (take n b)) (grind (arith, nat_tests))
+      ask_yes (count_right b n) (no_to Q.PacketCount n) (located (take n b)) (grind (arith, nat_tests))
       ∙ ap (λ m. located (take m b)) (sym (sub-zero n))
       ∙ ap (λ a. bind (first_octets k) (λ _. a)) (sym (found_by_walk k (chain_of k)))
 
@@ -64,11 +65,11 @@ pub container-accepted : (b : List ℕ) (n : ℕ) (w : Located) → container b 
 unfolding container located
 container-accepted b n w e =
     let k = take n b in
-    let count = asked_yes (count_right b n) (no_packet 5 n) (located k) w e in
+    let count = asked_yes (count_right b n) (no_to Q.PacketCount n) (located k) w e in
     let first = bound (first_octets k) _ w count.1 in
-    let flags = asked_yes (flags_right k) (no_packet 6 0) _ first.0 first.1 in
-    let type = asked_yes (message_type_right k) (no_packet 7 1) _ first.0 flags.1 in
-    let stated = asked_yes (length_right k) (no_packet 8 2) _ first.0 type.1 in
+    let flags = asked_yes (flags_right k) (no_to Q.Flags 0) _ first.0 first.1 in
+    let type = asked_yes (message_type_right k) (no_to Q.MessageType 1) _ first.0 flags.1 in
+    let stated = asked_yes (length_right k) (no_to Q.StatedLength 2) _ first.0 type.1 in
     let chain = bound (chain_of k) _ w first.2 in
     let only = bound (only_container chain.0.headers chain.0.end) _ w chain.2 in
     record {
@@ -88,10 +89,10 @@ pub accepted-container : (b : List ℕ) (n : ℕ) (w : Located) → Accepted b n
 unfolding container located
 accepted-container b n w a =
     let k = take n b in
-    let flags = ask_yes (flags_right k) (no_packet 6 0) _ a.flags in
-    let type = ask_yes (message_type_right k) (no_packet 7 1) _ a.message_type in
-    let stated = ask_yes (length_right k) (no_packet 8 2) (gives tt) a.stated in
-    ask_yes (count_right b n) (no_packet 5 n) (located k) a.count
+    let flags = ask_yes (flags_right k) (no_to Q.Flags 0) _ a.flags in
+    let type = ask_yes (message_type_right k) (no_to Q.MessageType 1) _ a.message_type in
+    let stated = ask_yes (length_right k) (no_to Q.StatedLength 2) (gives tt) a.stated in
+    ask_yes (count_right b n) (no_to Q.PacketCount n) (located k) a.count
     ∙ bind_gives (first_octets k) _ tt (flags ∙ type ∙ stated)
     ∙ bind_gives (chain_of k) _ a.chain a.walked
     ∙ bind_gives (only_container a.chain.headers a.chain.end) _ a.header a.only
@@ -144,7 +145,7 @@ headers_inside k p e (h ∷ hs) back far o i to =
 no_second_is : (h g : HeaderMeaning) (hs : List HeaderMeaning) → no_second h hs ≡ gives g → h ≡ g
 no_second_is h g [] q = gives_inj q
 no_second_is h g (k ∷ ks) q =
-    elim (is_container k) as (λ b. cond b (refused (no_packet 10 k.place)) (no_second h ks) ≡ gives g → h ≡ g) [
+    elim (is_container k) as (λ b. cond b (refused (no_to Q.Container k.place)) (no_second h ks) ≡ gives g → h ≡ g) [
       | true ↦ λ q. never (sym q)
       | false ↦ λ q. no_second_is h g ks q
     ] q

@@ -4,7 +4,8 @@ use Rattle.std.proofs.lemmas.List.{take-append-drop, drop_more, drop_at, take_at
 use Rattle.std.proofs.lemmas.List.Edits.{length-between}
 use Rattle.std.proofs.lemmas.Bool.Decides.{nat_tests}
 use Rattle.base.specs.declared.refusal.Refusal.{Refusal}
-use Rattle.base.specs.Answers.{refused, gives, no_packet}
+use Rattle.base.specs.declared.question.Question.TheVariants as Q
+use Rattle.base.specs.Answers.{refused, gives, no_to}
 use Rattle.base.proofs.Asking.{never, gives_inj, refused_inj}
 use Rattle.packet.specs.Chains.{header_size, header_content, next_type, behind, header_fits, size_answer}
 
@@ -18,15 +19,15 @@ size_fits o a b = grind (arith, nat_tests)
 pub size_gives : (o : List ℕ) (p n : ℕ) → gives n ≡ size_answer o p → (header_fits o ≡ true) × (n ≡ header_size o)
 size_gives o p n e = by (header_fits o) e
   where
-    by : (b : Bool) → gives n ≡ cond b (gives (header_size o)) (refused (no_packet 9 p)) → (b ≡ true) × (n ≡ header_size o)
+    by : (b : Bool) → gives n ≡ cond b (gives (header_size o)) (refused (no_to Q.Header p)) → (b ≡ true) × (n ≡ header_size o)
     by true e = (refl, gives_inj e)
     by false e = never e
 
 pub size_refused
-    : (o : List ℕ) (p : ℕ) (r : Refusal) → refused r ≡ size_answer o p → (header_fits o ≡ false) × (r ≡ no_packet 9 p)
+    : (o : List ℕ) (p : ℕ) (r : Refusal) → refused r ≡ size_answer o p → (header_fits o ≡ false) × (r ≡ no_to Q.Header p)
 size_refused o p r e = by (header_fits o) e
   where
-    by : (b : Bool) → refused r ≡ cond b (gives (header_size o)) (refused (no_packet 9 p)) → (b ≡ false) × (r ≡ no_packet 9 p)
+    by : (b : Bool) → refused r ≡ cond b (gives (header_size o)) (refused (no_to Q.Header p)) → (b ≡ false) × (r ≡ no_to Q.Header p)
     by true e = never (sym e)
     by false e = (refl, refused_inj e)
 

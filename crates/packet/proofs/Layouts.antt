@@ -2,7 +2,8 @@
 use Rattle.std.proofs.Common.{◌≡◌, ℕ, ◌+◌, ◌-◌, ◌≤◌, Bool, true, false, cond, List, [], ◌∷◌, ◌++◌, length, take, drop, sym, refl, ap, ◌∙◌, ap₂, arith, take-append-drop}
 use Rattle.std.proofs.lemmas.List.{drop-drop, length-take-le}
 use Rattle.std.proofs.lemmas.Bool.{eqb-true, eqb-false}
-use Rattle.base.specs.Answers.{gives, refused, no_packet}
+use Rattle.base.specs.declared.question.Question.TheVariants as Q
+use Rattle.base.specs.Answers.{gives, refused, no_to}
 use Rattle.base.proofs.Asking.{never, gives_inj}
 use Rattle.packet.specs.Chains.{HeaderMeaning}
 use Rattle.packet.specs.Containers.{Located, is_container, no_second, only_container}
@@ -16,9 +17,9 @@ alone g [] h e = (gives_inj e, tt)
 alone g (k ∷ ks) h e = by (is_container k) refl (λ q. alone g ks h q)
   where
     by : (b : Bool) → is_container k ≡ b → (no_second g ks ≡ gives h → (g ≡ h) × NoContainer ks) → (g ≡ h) × NoContainer (k ∷ ks)
-    by true q more = never (sym (ap (λ (t : Bool). cond t (refused (no_packet 10 k.place)) (no_second g ks)) (sym q) ∙ e))
+    by true q more = never (sym (ap (λ (t : Bool). cond t (refused (no_to Q.Container k.place)) (no_second g ks)) (sym q) ∙ e))
     by false q more =
-        let r = more (ap (λ (t : Bool). cond t (refused (no_packet 10 k.place)) (no_second g ks)) (sym q) ∙ e) in
+        let r = more (ap (λ (t : Bool). cond t (refused (no_to Q.Container k.place)) (no_second g ks)) (sym q) ∙ e) in
         (r.0, (eqb-false k.type 133 q, r.1))
 
 pub record Only (hs : List HeaderMeaning) (h : HeaderMeaning) : Type 0 where

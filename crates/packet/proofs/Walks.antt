@@ -2,7 +2,8 @@
 use Rattle.std.proofs.Common.{◌≡◌, ℕ, suc, ◌+◌, ◌-◌, ◌≤◌, Bool, true, false, cond, List, [], ◌∷◌, length, get_or, drop, sym, refl, ap, ◌∙◌, arith, length-drop}
 use Rattle.std.proofs.lemmas.List.{drop-drop}
 use Rattle.base.specs.declared.refusal.Refusal.{Refusal}
-use Rattle.base.specs.Answers.{Answer, refused, gives, bind, no_packet}
+use Rattle.base.specs.declared.question.Question.TheVariants as Q
+use Rattle.base.specs.Answers.{Answer, refused, gives, bind, no_to}
 use Rattle.base.proofs.Asking.{bind_gives, bind_refused}
 use Rattle.packet.specs.Chains.{HeaderMeaning, Chain, header_size, behind, header_at, size_answer, before, chain_from, chain_of}
 use Rattle.packet.specs.Containers.{is_container, no_second, only_container}
@@ -20,7 +21,7 @@ only_after-more nothing h hs e = by (is_container h)
     by false = refl
 only_after-more (one g) h hs e = by (is_container h)
   where
-    by : (b : Bool) → cond b (refused (no_packet 10 h.place)) (no_second g hs) ≡ only_after (cond b (second h.place) (one g)) hs e
+    by : (b : Bool) → cond b (refused (no_to Q.Container h.place)) (no_second g hs) ≡ only_after (cond b (second h.place) (one g)) hs e
     by true = refl
     by false = refl
 only_after-more (second p) h hs e = refl
@@ -57,7 +58,7 @@ module _ (k : List ℕ) (t p : ℕ) (o : List ℕ) (s : Seen) (g : Going k t p o
   going_stops r some asked =
       let a = size_refused o p r asked in
       g.same
-      ∙ bind_refused (chain_from (suc g.turns) t p o) _ (no_packet 9 p) (chain_stops g.turns t p o some a.0)
+      ∙ bind_refused (chain_from (suc g.turns) t p o) _ (no_to Q.Header p) (chain_stops g.turns t p o some a.0)
       ∙ ap refused (sym a.1)
 
   -- a yes to question 9: n octets are there

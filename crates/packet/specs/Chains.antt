@@ -1,7 +1,8 @@
 -- The chain of extension headers, which starts behind the first twelve octets of a G-PDU.
 use Rattle.std.specs.Prelude.{ℕ, zero, suc, ◌+◌, ◌-◌, ◌*◌, Bool, true, false, cond, ◌&&◌, List, [], ◌∷◌, length, drop, ◌==◌, nat_le, nat_lt, slice_index}
 use Rattle.std.specs.List.{between}
-use Rattle.base.specs.Answers.{Answer, refused, gives, ask, bind, no_packet}
+use Rattle.base.specs.declared.question.Question.TheVariants as Q
+use Rattle.base.specs.Answers.{Answer, refused, gives, ask, bind, no_to}
 
 -- a header: its type, the place of its first octet, and its content
 pub record HeaderMeaning : Type 0 where
@@ -31,7 +32,7 @@ abbrev pub header_fits : List ℕ → Bool
 header_fits o = nat_lt 0 (slice_index o 0) && nat_le (header_size o) (length o)
 
 abbrev pub size_answer : List ℕ → ℕ → Answer ℕ
-size_answer o p = cond (header_fits o) (gives (header_size o)) (refused (no_packet 9 p))
+size_answer o p = cond (header_fits o) (gives (header_size o)) (refused (no_to Q.Header p))
 
 -- the headers of a chain, and its end: the place of the first octet behind it
 pub record Chain : Type 0 where
@@ -44,12 +45,12 @@ before h c = record { headers = h ∷ c.headers; end = c.end }
 -- The chain from place p on, o being the octets there and t the type of its first header; type 0 ends it.
 -- A packet has at most 9,216 octets and a header at least four, so 9,216 turns are enough.
 unfoldable pub chain_from : ℕ → ℕ → ℕ → List ℕ → Answer Chain
-chain_from zero t p o = refused (no_packet 9 p)
+chain_from zero t p o = refused (no_to Q.Header p)
 chain_from (suc turns) t p o =
     elim (t == 0) [
       | true ↦ gives (record { headers = []; end = p })
       | false ↦
-          ask (header_fits o) (no_packet 9 p)
+          ask (header_fits o) (no_to Q.Header p)
           (bind (chain_from turns (next_type o) (p + header_size o) (behind o)) (λ c. gives (before (header_at t p o) c)))
     ]
 

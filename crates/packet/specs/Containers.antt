@@ -1,6 +1,7 @@
 -- The one PDU session container of a packet: questions 5 to 10.
 use Rattle.std.specs.Prelude.{ℕ, ◌-◌, ◌/◌, Bool, cond, ◌&&◌, List, [], ◌∷◌, length, take, drop, ◌==◌, nat_le, slice_index}
-use Rattle.base.specs.Answers.{Answer, refused, gives, ask, bind, no_packet}
+use Rattle.base.specs.declared.question.Question.TheVariants as Q
+use Rattle.base.specs.Answers.{Answer, refused, gives, ask, bind, no_to}
 use Rattle.base.specs.Octets.{bit, big_endian}
 use Rattle.packet.specs.Chains.{HeaderMeaning, chain_of}
 
@@ -11,10 +12,10 @@ is_container h = h.type == 133
 -- question 10: is there exactly one container? The place is the second, or the chain's end.
 abbrev pub no_second : HeaderMeaning → List HeaderMeaning → Answer HeaderMeaning
 no_second h [] = gives h
-no_second h (k ∷ ks) = cond (is_container k) (refused (no_packet 10 k.place)) (no_second h ks)
+no_second h (k ∷ ks) = cond (is_container k) (refused (no_to Q.Container k.place)) (no_second h ks)
 
 abbrev pub only_container : List HeaderMeaning → ℕ → Answer HeaderMeaning
-only_container [] e = refused (no_packet 10 e)
+only_container [] e = refused (no_to Q.Container e)
 only_container (h ∷ hs) e = cond (is_container h) (no_second h hs) (only_container hs e)
 
 -- what is found: the container's place, its frame, the chain's end and the inner packet behind it
@@ -42,7 +43,7 @@ length_right k = big_endian (take 2 (drop 2 k)) == length k - 8
 -- questions 6 to 8 of a packet's octets
 abbrev pub first_octets : List ℕ → Answer (Unit {0})
 first_octets k =
-    ask (flags_right k) (no_packet 6 0) (ask (message_type_right k) (no_packet 7 1) (ask (length_right k) (no_packet 8 2) (gives tt)))
+    ask (flags_right k) (no_to Q.Flags 0) (ask (message_type_right k) (no_to Q.MessageType 1) (ask (length_right k) (no_to Q.StatedLength 2) (gives tt)))
 
 -- questions 6 to 10: the first octets, the chain, the one container
 unfoldable pub located : List ℕ → Answer Located
@@ -56,4 +57,4 @@ count_right buffer n = nat_le 12 n && (nat_le n 9216 && nat_le n (length buffer)
 
 -- questions 5 to 10 of a packet, the first n octets of a buffer
 unfoldable pub container : List ℕ → ℕ → Answer Located
-container buffer n = ask (count_right buffer n) (no_packet 5 n) (located (take n buffer))
+container buffer n = ask (count_right buffer n) (no_to Q.PacketCount n) (located (take n buffer))

@@ -1,6 +1,7 @@
 -- What a walk over the chain has seen of containers, and what that makes of the headers still to come.
 use Rattle.std.specs.Prelude.{ℕ, cond, List, drop}
-use Rattle.base.specs.Answers.{Answer, refused, gives, bind, no_packet}
+use Rattle.base.specs.declared.question.Question.TheVariants as Q
+use Rattle.base.specs.Answers.{Answer, refused, gives, bind, no_to}
 use Rattle.packet.specs.Chains.{HeaderMeaning, Chain, chain_of}
 use Rattle.packet.specs.Containers.{Located, is_container, no_second, only_container}
 
@@ -20,7 +21,7 @@ seen_after (second p) h = second p
 abbrev pub only_after : Seen → List HeaderMeaning → ℕ → Answer HeaderMeaning
 only_after nothing hs e = only_container hs e
 only_after (one g) hs e = no_second g hs
-only_after (second p) hs e = refused (no_packet 10 p)
+only_after (second p) hs e = refused (no_to Q.Container p)
 
 -- what a walk answers: the answer to question 10, the chain's end, and the octets behind it
 pub record Walk : Type 0 where

@@ -2,7 +2,8 @@
 ghost use Rattle.std.specs.Prelude.{◌≡◌};
 ghost use Rattle.packet.specs.Faults.{packet_refusal};
 
-use base::refusal::{Layer, Refusal};
+use base::question::Question;
+use base::refusal::Refusal;
 
 /// A no to one of the questions 5 to 10.
 #[derive(Clone, Copy, PartialEq, Eq, Debug)]
@@ -21,22 +22,21 @@ pub enum PacketFault {
     Container { place: usize },
 }
 
-impl PacketFault {
-    /// The number, layer and place of the refusal.
-    pub fn refusal(&self) -> Refusal
-        ensures { result ≡ packet_refusal self.now }
-    {
-        let (number, place) = match *self {
-            PacketFault::Count { count } => (5, count),
-            PacketFault::Flags => (6, 0),
-            PacketFault::MessageType => (7, 1),
-            PacketFault::Length => (8, 2),
-            PacketFault::Header { place } => (9, place),
-            PacketFault::Container { place } => (10, place),
+/// The question and the place.
+impl From<PacketFault> for Refusal {
+    ghost from_gives = { λ fault refusal. refusal ≡ packet_refusal fault };
+
+    fn from(fault: PacketFault) -> Refusal {
+        let (question, place) = match fault {
+            PacketFault::Count { count } => (Question::PacketCount, count),
+            PacketFault::Flags => (Question::Flags, 0),
+            PacketFault::MessageType => (Question::MessageType, 1),
+            PacketFault::Length => (Question::StatedLength, 2),
+            PacketFault::Header { place } => (Question::Header, place),
+            PacketFault::Container { place } => (Question::Container, place),
         };
         Refusal {
-            number,
-            layer: Layer::Packet,
+            question,
             place,
             origin: None,
         }

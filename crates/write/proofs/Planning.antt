@@ -3,7 +3,8 @@ use Rattle.std.proofs.Common.{◌≡◌, ℕ, ◌+◌, ◌<◌, ◌≤◌, Bool,
 use lib.ListN.{length-replicate}
 use Rattle.std.proofs.lemmas.Bool.{and_parts, eq-eqb, ne_eqb, leb-true, le-leb, lt-leb}
 use Rattle.base.specs.declared.refusal.Refusal.{Refusal}
-use Rattle.base.specs.Answers.{refused, gives, ask, no_call}
+use Rattle.base.specs.declared.question.Question.TheVariants as Q
+use Rattle.base.specs.Answers.{refused, gives, ask, no_to}
 use Rattle.base.proofs.Asking.{ask_yes, ask_no, bind_gives, bind_refused}
 use Rattle.layout.specs.Items.{Meaning}
 use Rattle.layout.specs.Questions.{lawful}
@@ -23,7 +24,7 @@ module _ (o : ℕ) (m : Meaning) (rs : List Row) (inner : List ℕ) (room : ℕ)
   plan_no_layout r e t = bind_refused _ _ r (sym e)
 
   module _ (e : gives tt ≡ lawful o m) where
-    pub plan_no_rows : length rs < length m.items → (t : ℕ) → written o m rs t inner room ≡ refused (no_call 4 (length rs))
+    pub plan_no_rows : length rs < length m.items → (t : ℕ) → written o m rs t inner room ≡ refused (no_to Q.TableRows (length rs))
     unfolding written
     plan_no_rows h t = bind_gives _ _ tt (sym e) ∙ ask_no _ _ _ (lt-leb (length m.items) (length rs) h)
 
@@ -31,15 +32,15 @@ module _ (o : ℕ) (m : Meaning) (rs : List Row) (inner : List ℕ) (room : ℕ)
       -- a layout and a table that pass leave 22 and 21
       on : (t : ℕ)
           → written o m rs t inner room
-          ≡ ask (eqb (first_unfit m rs) (length m.items)) (no_call 22 (first_unfit m rs))
+          ≡ ask (eqb (first_unfit m rs) (length m.items)) (no_to Q.RowFits (first_unfit m rs))
           (ask (may_be_held (plain_frame m.items rs) (packet_of t (plain_frame m.items rs) inner) room)
-          (no_call 21 (length (packet_of t (plain_frame m.items rs) inner)))
+          (no_to Q.Room (length (packet_of t (plain_frame m.items rs) inner)))
           (gives (packet_of t (plain_frame m.items rs) inner)))
       unfolding written
       on t = bind_gives _ _ tt (sym e) ∙ ask_yes _ _ _ (le-leb (length m.items) (length rs) h)
 
       pub plan_unfit : (first_unfit m rs ≡ length m.items → ⊥) → (t : ℕ)
-          → written o m rs t inner room ≡ refused (no_call 22 (first_unfit m rs))
+          → written o m rs t inner room ≡ refused (no_to Q.RowFits (first_unfit m rs))
       plan_unfit n t = on t ∙ ask_no _ _ _ (ne_eqb (first_unfit m rs) (length m.items) n)
 
       module _ (f : first_unfit m rs ≡ length m.items) (size pad : ℕ) (s : size ≡ length (joined (pieces_for m.items rs)))
@@ -64,11 +65,11 @@ module _ (o : ℕ) (m : Meaning) (rs : List Row) (inner : List ℕ) (room : ℕ)
         held : (t : ℕ) → fits_in frame count room ≡ may_be_held (plain_frame m.items rs) (packet_of t (plain_frame m.items rs) inner) room
         held t = ap₂ (λ (x y : ℕ). fits_in x y room) framed (counted t)
 
-        pub plan_no_space : false ≡ fits_in frame count room → (t : ℕ) → written o m rs t inner room ≡ refused (no_call 21 count)
+        pub plan_no_space : false ≡ fits_in frame count room → (t : ℕ) → written o m rs t inner room ≡ refused (no_to Q.Room count)
         plan_no_space n t =
             on t ∙ ask_yes _ _ _ (eq-eqb (first_unfit m rs) (length m.items) f)
             ∙ ask_no _ _ _ (sym (n ∙ held t))
-            ∙ ap (λ (k : ℕ). refused (no_call 21 k)) (sym (counted t))
+            ∙ ap (λ (k : ℕ). refused (no_to Q.Room k)) (sym (counted t))
 
         pub plan_gives : true ≡ fits_in frame count room → (t : ℕ)
             → written o m rs t inner room ≡ gives (packet_of t (plain_frame m.items rs) inner)

@@ -1,6 +1,7 @@
 -- Write: rows are looked at (question 22), and a packet with a frame in plain form is made of them (question 21).
 use Rattle.std.specs.Prelude.{ℕ, ◌+◌, ◌-◌, ◌/◌, ◌%◌, Bool, true, cond, not, ◌&&◌, List, [], ◌∷◌, ◌++◌, length, drop, replicate, ◌==◌, bit_and, nat_le, slice_index_or}
-use Rattle.base.specs.Answers.{Answer, refused, gives, ask, bind, first_no, no_call}
+use Rattle.base.specs.declared.question.Question.TheVariants as Q
+use Rattle.base.specs.Answers.{Answer, refused, gives, ask, bind, first_no, no_to}
 use Rattle.base.specs.Octets.{bit, octets_of}
 use Rattle.layout.specs.Items.{ItemKind, bits_octet, a_number, ItemGovernor, ungoverned, governed_by, ItemMeaning, Meaning}
 use Rattle.layout.specs.Questions.{lawful}
@@ -74,10 +75,10 @@ may_be_held f k room = nat_le (length f) 1018 && (nat_le (length k) 9216 && nat_
 unfoldable pub written : ℕ → Meaning → List Row → ℕ → List ℕ → ℕ → Answer (List ℕ)
 written o m rs teid inner room =
     bind (lawful o m) (λ _.
-    ask (nat_le (length m.items) (length rs)) (no_call 4 (length rs))
-    (ask (first_unfit m rs == length m.items) (no_call 22 (first_unfit m rs))
+    ask (nat_le (length m.items) (length rs)) (no_to Q.TableRows (length rs))
+    (ask (first_unfit m rs == length m.items) (no_to Q.RowFits (first_unfit m rs))
     (ask (may_be_held (plain_frame m.items rs) (packet_of teid (plain_frame m.items rs) inner) room)
-    (no_call 21 (length (packet_of teid (plain_frame m.items rs) inner)))
+    (no_to Q.Room (length (packet_of teid (plain_frame m.items rs) inner)))
     (gives (packet_of teid (plain_frame m.items rs) inner)))))
 
 -- what write answers: the packet's count; and the buffer after it, whose octets behind the packet stay, and all on a refusal

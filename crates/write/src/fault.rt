@@ -3,7 +3,8 @@ ghost use Rattle.std.specs.Prelude.{◌≡◌};
 ghost use Rattle.write.specs.declared.fault.WriteFault.TheVariants.{Layout as of-layout};
 ghost use Rattle.write.specs.Faults.{write_refusal};
 
-use base::refusal::{Layer, Refusal};
+use base::question::Question;
+use base::refusal::Refusal;
 use layout::fault::LayoutFault;
 
 /// A no to one of the questions 1 to 4, 22 and 21.
@@ -27,20 +28,19 @@ impl From<LayoutFault> for WriteFault {
     }
 }
 
-impl WriteFault {
-    /// The number, layer, place and origin of the refusal.
-    pub fn refusal(&self) -> Refusal
-        ensures { result ≡ write_refusal self.now }
-    {
-        let (number, place) = match *self {
-            WriteFault::Layout(fault) => return fault.refusal(),
-            WriteFault::Rows { count } => (4, count),
-            WriteFault::Unfit { item } => (22, item),
-            WriteFault::Space { count } => (21, count),
+/// The question, the place and the origin.
+impl From<WriteFault> for Refusal {
+    ghost from_gives = { λ fault refusal. refusal ≡ write_refusal fault };
+
+    fn from(fault: WriteFault) -> Refusal {
+        let (question, place) = match fault {
+            WriteFault::Layout(cause) => return cause.into(),
+            WriteFault::Rows { count } => (Question::TableRows, count),
+            WriteFault::Unfit { item } => (Question::RowFits, item),
+            WriteFault::Space { count } => (Question::Room, count),
         };
         Refusal {
-            number,
-            layer: Layer::Call,
+            question,
             place,
             origin: None,
         }
