@@ -1,10 +1,11 @@
 -- Questions 1 to 3 one after another, by what the code finds, and what a yes to them says.
-use Rattle.std.proofs.Common.{◌≡◌, ℕ, ◌≤◌, Bool, true, false, ◌&&◌, leb, length, sym, refl, ap, ◌∙◌, ap₂}
+use Rattle.std.proofs.Common.{◌≡◌, ℕ, ◌≤◌, Bool, true, false, ◌&&◌, leb, length, sym, refl, ap, ◌∙◌, ap₂, arith}
 use Rattle.std.proofs.lemmas.Bool.{eq-eqb, ne_eqb, eqb-true, leb-true, le-leb, and_parts, and_from}
 use Rattle.base.specs.declared.question.Question.TheVariants as Q
 use Rattle.base.specs.Answers.{refused, gives, no_layout}
 use Rattle.base.proofs.Asking.{ask_yes, ask_no, asked_yes}
 use Rattle.layout.specs.Items.{Meaning, item_at}
+use Rattle.layout.specs.Misfits.{MisfitsFirst}
 use Rattle.layout.specs.Questions.{may_lead, first_misfit, lawful}
 
 module _ (m : Meaning) (o s n : ℕ) (e : o ≡ s) (c : n ≡ length m.items) where
@@ -20,23 +21,27 @@ module _ (m : Meaning) (o s n : ℕ) (e : o ≡ s) (c : n ≡ length m.items) wh
     unfolding lawful
     refused_2 f = ap (λ (x : ℕ). refused (no_layout x Q.FirstItem 0)) e ∙ sym (ask_yes _ _ _ (counted true h) ∙ ask_no _ _ _ (sym f))
 
-    module _ (f : true ≡ may_lead (item_at m.items 0)) (i : ℕ) (q : i ≡ first_misfit m.items) where
-      pub refused_3 : (i ≡ n → ⊥) → refused (no_layout o Q.Governors i) ≡ lawful s m
+    module _ (f : true ≡ may_lead (item_at m.items 0)) where
+      pub refused_3 : (i : ℕ) → MisfitsFirst m.items i → refused (no_layout o Q.Governors i) ≡ lawful s m
       unfolding lawful
-      refused_3 u =
-          ap₂ (λ (x y : ℕ). refused (no_layout x Q.Governors y)) e q
+      refused_3 i q =
+          ap₂ (λ (x y : ℕ). refused (no_layout x Q.Governors y)) e (sym q.first)
           ∙ sym
           (ask_yes _ _ _ (counted true h)
           ∙ ask_yes _ _ _ (sym f)
-          ∙ ask_no _ _ _ (ne_eqb (first_misfit m.items) (length m.items) (λ t. u (q ∙ t ∙ sym c))))
+          ∙ ask_no _ _ _ (ne_eqb (first_misfit m.items) (length m.items) (λ t. absurd (omega (arith, t, q.first, q.within)))))
 
-      pub passed : i ≡ n → gives tt ≡ lawful s m
+      pub passed : first_misfit m.items ≡ length m.items → gives tt ≡ lawful s m
       unfolding lawful
-      passed u =
+      passed q =
           sym
           (ask_yes _ _ _ (counted true h)
           ∙ ask_yes _ _ _ (sym f)
-          ∙ ask_yes _ _ _ (eq-eqb (first_misfit m.items) (length m.items) (sym q ∙ u ∙ c)))
+          ∙ ask_yes _ _ _ (eq-eqb (first_misfit m.items) (length m.items) q))
+
+-- the count of a layout that passes 1
+pub few_counted : (n : ℕ) → (leb 1 n && leb n 64) ≡ true → n ≤ 64
+few_counted n h = leb-true n 64 (and_parts (leb 1 n) (leb n 64) h).1
 
 -- what a lawful layout is, answer by answer
 pub record Passes (m : Meaning) : Type 0 where
@@ -63,7 +68,7 @@ passes_from o m e =
 pub lawful_from : (m : Meaning) → Passes m → (o : ℕ) → lawful o m ≡ gives tt
 lawful_from m p o =
     sym (passed m o o (length m.items) refl refl (sym (and_from _ _ (le-leb 1 (length m.items) p.some) (le-leb (length m.items) 64 p.few)))
-    (sym p.leads) (first_misfit m.items) refl p.fit)
+    (sym p.leads) p.fit)
 
 pub lawful_any : (m : Meaning) (o : ℕ) → lawful o m ≡ gives tt → (p : ℕ) → lawful p m ≡ gives tt
 lawful_any m o e = lawful_from m (passes_from o m e)

@@ -14,4 +14,4 @@ is_name os = is_name_octet (slice_index os 0) && (is_name_octet (slice_index os 
 
 -- 25: the item of an entry, where its raw values are an item and its name is three capitals or digits
 abbrev pub entry_accepted : RawEntry → Option ItemMeaning
-entry_accepted e = cond (is_name e.name) (accepted e.item) None
+entry_accepted e = cond (is_name e.name.letters) (accepted e.item) None

@@ -1,4 +1,8 @@
 pub mod Items
+pub mod Names
+pub mod Makers
+pub mod Misfits
+pub mod Itemized
 pub mod Views
 pub mod Questions
 pub mod Faults

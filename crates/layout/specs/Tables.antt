@@ -80,7 +80,7 @@ published_meaning p = record { pdu_type = published_type p; items = published_it
 
 -- a row of a table of the code
 abbrev pub row_meaning : TableRow → NamedItem
-row_meaning r = record { name = r.name; item = meant r.item }
+row_meaning r = record { name = r.name.letters; item = meant r.item }
 
 -- the rules that every published table keeps: each item may exist, and the layout passes questions 1 to 3
 abbrev pub TablesStand : Type 0

@@ -6,12 +6,13 @@ ghost use Rattle.layout.specs.Views.{meant};
 
 use crate::item::Item;
 use crate::maker::RawItem;
+use crate::name::Name;
 
 /// An item as it is written down, and its name.
 #[derive(Clone, Copy)]
 pub struct RawEntry {
     pub item: RawItem,
-    pub name: [u8; 3],
+    pub name: Name,
 }
 
 /// Whether an octet may stand in a name: a capital letter or a digit.
@@ -26,10 +27,10 @@ impl RawEntry {
     pub fn accept(&self) -> Option<Item>
         ensures { option_map meant result ≡ entry_accepted self.now }
     {
-        let [a, b, c] = self.name;
+        let [a, b, c] = self.name.letters;
         if !(is_name_octet(a) && is_name_octet(b) && is_name_octet(c)) {
             return None;
         }
-        Item::new(self.item)
+        Item::try_from(self.item).ok()
     }
 }

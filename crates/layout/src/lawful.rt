@@ -1,17 +1,20 @@
 //! Questions 1 to 3, which are put to every layout before it is used.
-ghost use Rattle.std.specs.Prelude.{◌≡◌, ◌≤◌, ◌&&◌, length, OnOk, nat_le};
-ghost use Rattle.base.specs.Answers.{answer_of};
+ghost use Rattle.std.specs.Prelude.{◌≡◌, ◌≤◌, ◌&&◌, length, IfOk, MatchOption, nat_le};
+ghost use Rattle.base.specs.Answers.{answer_of, gives};
 ghost use Rattle.layout.specs.Faults.{layout_refusal};
 ghost use Rattle.layout.specs.Items.{item_at, EachMayExist};
 ghost use Rattle.layout.specs.Masks.{governor_fits_masks};
-ghost use Rattle.layout.specs.Questions.{lawful as passes, may_lead as leads, first_misfit as misfit};
+ghost use Rattle.layout.specs.Questions.{lawful as passes, may_lead as leads};
+ghost use Rattle.layout.specs.Misfits.{AllFit, MisfitsFirst};
 ghost use Rattle.layout.specs.Tables.{TablesStand};
 ghost use Rattle.layout.specs.Views.{meant, governor_meaning};
 
 use crate::fault::LayoutFault;
 use crate::item::Item;
+use crate::items::Items;
 use crate::kind::{Governor, Kind};
 use crate::layout::Layout;
+use arrayvec::ArrayVec;
 
 /// The most items that a layout may have.
 pub const MOST_ITEMS: usize = 64;
@@ -24,88 +27,94 @@ fn governor_fits(governor: Option<Governor>, earlier: &[u8]) -> bool
     let Some(g) = governor else {
         return true;
     };
-    let at = g.item as usize;
-    if at >= earlier.len() {
-        return false;
+    let at = usize::from(g.item);
+    match earlier.get(at) {
+        Some(mask) => (mask >> g.bit) % 2 == 1 && !(at == 0 && g.bit >= 4),
+        None => false,
     }
-    (earlier[at] >> g.bit) % 2 == 1 && !(at == 0 && g.bit >= 4)
 }
 
-/// The first item whose governor does not fit; the count where all do.
-fn first_misfit<L: Layout>(layout: &L, count: usize) -> usize
-    requires all { count ≡ length (L.meaning layout.now).items }
-    requires few { count ≤ 64 }
-    ensures place { result ≡ misfit (L.meaning layout.now).items }
-    ensures items { result ≡ count → EachMayExist (L.meaning layout.now).items }
+/// The first item whose governor does not fit, if there is one.
+#[tactic(auto, using(crate::proofs::Misfits::fitted_start))]
+fn first_misfit<L: Layout>(items: Items<'_, L>) -> Option<usize>
+    requires all { items.at ≡ 0 }
+    requires few { items.count ≤ 64 }
+    ensures { MatchOption result (AllFit (L.meaning items.entry.layout.now).items) (λ i. MisfitsFirst (L.meaning items.entry.layout.now).items i) }
 {
-    let mut masks = [0u8; MOST_ITEMS];
-    for i in 0..count {
-        let Some(item) = layout.item(i) else {
-            unreachable();
-        };
-        if !governor_fits(item.governor, &masks[0..i]) {
-            return i;
+    let mut masks = ArrayVec::<u8, MOST_ITEMS>::new();
+    for item in items {
+        if !governor_fits(item.governor, &masks) {
+            return Some(masks.len());
         }
-        masks[i] = item.mask;
+        masks.push(item.mask);
     }
-    count
+    None
 }
 
 /// Whether an item is an ungoverned bits octet with bits 7 to 4 named.
 fn may_lead(item: &Item) -> bool
     ensures { result ≡ leads (meant item.now) }
 {
-    match (item.kind, item.governor) {
-        (Kind::Bits, None) => item.mask / 16 == 15,
-        (Kind::Bits, Some(_)) => false,
-        (Kind::Number, _) => false,
-    }
+    item.kind == Kind::Bits && item.governor.is_none() && item.mask / 16 == 15
 }
 
 /// Whether item 0 is there and may lead.
 fn first_leads<L: Layout>(layout: &L) -> bool
     ensures { result ≡ leads (item_at (L.meaning layout.now).items 0) }
 {
-    match layout.item(0) {
-        None => false,
-        Some(first) => may_lead(&first),
-    }
+    layout.item(0).is_some_and(|first| may_lead(&first))
 }
 
 /// Whether a layout may have so many items.
 fn may_count(count: usize) -> bool
     ensures { result ≡ (nat_le 1 count && nat_le count 64) }
 {
-    1 <= count && count <= MOST_ITEMS
+    (1..=MOST_ITEMS).contains(&count)
 }
 
-/// Puts questions 1 to 3 to a layout of so many items.
-fn put_questions<L: Layout>(layout: &L, count: usize) -> Result<(), LayoutFault>
-    requires { count ≡ length (L.meaning layout.now).items }
-    ensures answer { answer_of (λ u. u) layout_refusal result ≡ passes L.source (L.meaning layout.now) }
-    ensures items { OnOk result (EachMayExist (L.meaning layout.now).items) }
+/// A layout that passed questions 1 to 3, and how many items it has.
+#[derive(Drop)]
+pub struct LawfulLayout<'a, L: Layout> {
+    pub layout: &'a L,
+    pub count: usize,
+    ghost counted: { count ≡ length (L.meaning layout.now).items },
+    ghost few: { count ≤ 64 },
+    ghost passed: { passes L.source (L.meaning layout.now) ≡ gives tt },
+    ghost exist: { EachMayExist (L.meaning layout.now).items },
+}
+
+impl<'a, L: Layout> LawfulLayout<'a, L> {
+    /// The items, one after another.
+    pub fn items(&self) -> Items<'a, L>
+        ensures layout { result.layout.now ≡ self.now.layout.now }
+        ensures start { result.at ≡ 0 }
+        ensures count { result.count ≡ self.now.count }
+    {
+        Items {
+            layout: self.layout,
+            at: 0,
+            count: self.count,
+        }
+    }
+}
+
+/// Puts questions 1 to 3 to a layout. The published ones pass.
+pub fn lawful<L: Layout>(layout: &L) -> Result<LawfulLayout<'_, L>, LayoutFault>
+    ensures answer { answer_of (λ _. tt) layout_refusal result ≡ passes L.source (L.meaning layout.now) }
+    ensures same { IfOk result (λ l. l.layout.now ≡ layout.now) }
     ensures published { TablesStand }
 {
     let origin = layout.origin_number();
+    let items = Items::new(layout);
+    let count = items.count;
     if !may_count(count) {
         return Err(LayoutFault::Count { origin, count });
     }
     if !first_leads(layout) {
         return Err(LayoutFault::First { origin });
     }
-    let item = first_misfit(layout, count);
-    if item != count {
+    if let Some(item) = first_misfit(items) {
         return Err(LayoutFault::Governor { origin, item });
     }
-    Ok(())
-}
-
-/// Puts questions 1 to 3 to a layout. Each item of one that passes may exist; the published ones pass.
-pub fn lawful<L: Layout>(layout: &L) -> Result<(), LayoutFault>
-    ensures answer { answer_of (λ u. u) layout_refusal result ≡ passes L.source (L.meaning layout.now) }
-    ensures items { OnOk result (EachMayExist (L.meaning layout.now).items) }
-    ensures published { TablesStand }
-{
-    let count = layout.count();
-    put_questions(layout, count)
+    Ok(LawfulLayout { layout, count })
 }

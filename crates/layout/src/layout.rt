@@ -34,12 +34,4 @@ pub trait Layout {
     /// Item number `i`, counted from 0; none past the end.
     fn item(&self, i: usize) -> Option<Item>
         ensures { option_map meant result ≡ slice_get (meaning self.now).items i };
-
-    /// Item number `i`, and how many items there are. A layout that holds another answers both by asking it once.
-    fn item_and_count(&self, i: usize) -> (Option<Item>, usize)
-        ensures item { option_map meant result.0 ≡ slice_get (meaning self.now).items i }
-        ensures count { result.1 ≡ length (meaning self.now).items }
-    {
-        (self.item(i), self.count())
-    }
 }

@@ -4,10 +4,12 @@
 pub mod entry;
 pub mod fault;
 pub mod item;
+pub mod items;
 pub mod kind;
 pub mod lawful;
 pub mod layout;
 pub mod maker;
+pub mod name;
 pub mod named;
 pub mod published;
 pub mod table;

@@ -1,7 +1,6 @@
 //! The one maker of items from raw values.
 ghost use Rattle.std.specs.Prelude.{◌≡◌, ◌+◌, ◌^◌, ◌≤◌};
-ghost use Rattle.std.specs.Option.{option_map};
-ghost use Rattle.layout.specs.Views.{meant, accepted, governor_meaning, governor_accepted};
+ghost use Rattle.layout.specs.Makers.{MakesKind, MakesGovernor, MakesItem};
 
 use crate::item::Item;
 use crate::kind::{Governor, Kind};
@@ -10,7 +9,7 @@ use crate::kind::{Governor, Kind};
 pub const NO_GOVERNOR: u8 = 255;
 
 /// An item as it is written down: kind 0 for a bits octet and 1 for a number; `governor` and `bit` name the governor's bit,
-/// or are 255 and 0 where there is none.
+/// or are 255 and 0 where there is none. The fields are octets of a file, and may write down no item: that is what the maker tells.
 #[derive(Clone, Copy, PartialEq, Eq, Debug)]
 pub struct RawItem {
     pub kind: u8,
@@ -19,6 +18,39 @@ pub struct RawItem {
     pub length: u8,
     pub mask: u8,
     pub limit: u64,
+}
+
+/// Raw values that write down no item.
+#[derive(Clone, Copy, PartialEq, Eq, Debug)]
+pub struct NoItem;
+
+/// The kind of a raw value.
+impl TryFrom<u8> for Kind {
+    type Error = NoItem;
+
+    ghost try_from_gives = { MakesKind };
+
+    fn try_from(raw: u8) -> Result<Kind, NoItem> {
+        match raw {
+            0 => Ok(Kind::Bits),
+            1 => Ok(Kind::Number),
+            _ => Err(NoItem),
+        }
+    }
+}
+
+impl RawItem {
+    /// The governor that the raw values name, or no governor.
+    fn named_governor(&self) -> Result<Option<Governor>, NoItem>
+        ensures { MakesGovernor self.now.governor self.now.bit result }
+    {
+        match (self.governor, self.bit) {
+            (NO_GOVERNOR, 0) => Ok(None),
+            (NO_GOVERNOR, _) => Err(NoItem),
+            (item, bit) if bit < 8 => Ok(Some(Governor { item, bit })),
+            _ => Err(NoItem),
+        }
+    }
 }
 
 /// The greatest number of so many octets.
@@ -39,60 +71,34 @@ fn greatest(length: u8) -> u64
     }
 }
 
-/// The governor that two raw values name, or no governor; none where they name neither.
-fn governor_of(item: u8, bit: u8) -> Option<Option<Governor>>
-    ensures { option_map governor_meaning result ≡ governor_accepted item bit }
-{
-    if item == NO_GOVERNOR {
-        return if bit == 0 { Some(None) } else { None };
-    }
-    if bit < 8 {
-        Some(Some(Governor { item, bit }))
-    } else {
-        None
-    }
-}
+/// The item that raw values write down.
+impl TryFrom<RawItem> for Item {
+    type Error = NoItem;
 
-impl Item {
-    /// The item that raw values write down, or none where they write down no item.
-    pub fn new(raw: RawItem) -> Option<Item>
-        ensures { option_map meant result ≡ accepted raw }
-    {
-        let governor = governor_of(raw.governor, raw.bit)?;
+    ghost try_from_gives = { MakesItem };
+
+    fn try_from(raw: RawItem) -> Result<Item, NoItem> {
+        let kind = Kind::try_from(raw.kind)?;
+        let governor = raw.named_governor()?;
         let RawItem {
             length,
             mask,
             limit,
             ..
         } = raw;
-        match raw.kind {
-            0 => {
-                if length != 1 || limit != 0 {
-                    return None;
-                }
-                let kind = Kind::Bits;
-                Some(Item {
-                    kind,
-                    governor,
-                    length,
-                    mask,
-                    limit,
-                })
-            }
-            1 => {
-                if length < 1 || length > 8 || mask != 0 || limit > greatest(length) {
-                    return None;
-                }
-                let kind = Kind::Number;
-                Some(Item {
-                    kind,
-                    governor,
-                    length,
-                    mask,
-                    limit,
-                })
-            }
-            _ => None,
+        let exists = match kind {
+            Kind::Bits => length == 1 && limit == 0,
+            Kind::Number => length >= 1 && length <= 8 && mask == 0 && limit <= greatest(length),
+        };
+        if !exists {
+            return Err(NoItem);
         }
+        Ok(Item {
+            kind,
+            governor,
+            length,
+            mask,
+            limit,
+        })
     }
 }

@@ -3,6 +3,7 @@ ghost use Rattle.layout.specs.Tables.{published_meaning, published_names};
 
 use crate::item::Item;
 use crate::layout::Layout;
+use crate::name::Name;
 use crate::named::NamedLayout;
 use crate::table::Published;
 
@@ -39,7 +40,7 @@ impl Layout for Published {
 impl NamedLayout for Published {
     ghost names = { published_names };
 
-    fn name(&self, i: usize) -> [u8; 3] {
-        self.row_name(i)
+    fn name(&self, i: usize) -> Name {
+        self.row(i).map_or(Name::NONE, |row| row.name)
     }
 }

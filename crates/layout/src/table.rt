@@ -1,13 +1,15 @@
-//! The published layouts as tables: 3GPP TS 38.415 v16.1.0, v16.3.0 and v19.1.0.
-ghost use Rattle.std.specs.Prelude.{◌≡◌, ◌≤◌, [], ◌∷◌, map, length};
+//! The published layouts as tables: 3GPP TS 38.415 v16.1.0, v16.3.0 and v19.1.0. A row is made when it is asked for: a constant
+//! that holds items would be built anew, whole, at each asking.
+ghost use Rattle.std.specs.Prelude.{◌≡◌, ◌^◌, ◌<◌, ◌≤◌, length};
 ghost use Rattle.std.specs.List.{slice_get};
 ghost use Rattle.std.specs.Option.{option_map};
-ghost use Rattle.layout.specs.Items.{name_at};
-ghost use Rattle.layout.specs.Tables.{published as rows_of, published_items, published_names, row_meaning};
+ghost use Rattle.layout.specs.Items.{governed_by};
+ghost use Rattle.layout.specs.Tables.{dl_16, ul_first, ndr, ul_19_further, published as rows_of, row_meaning, octet, number_up_to};
+ghost use Rattle.layout.specs.Views.{governor_meaning};
 
 use crate::item::Item;
-use crate::kind::Kind::{Bits, Number};
 use crate::kind::{Governor, Kind};
+use crate::name::Name;
 
 /// A published layout: downlink (DL PDU SESSION INFORMATION) or uplink (UL PDU SESSION INFORMATION), by release.
 #[derive(Clone, Copy, PartialEq, Eq, Debug)]
@@ -21,7 +23,7 @@ pub enum Published {
 /// A row of a table: an item and its name.
 #[derive(Clone, Copy)]
 pub struct TableRow {
-    pub name: [u8; 3],
+    pub name: Name,
     pub item: Item,
 }
 
@@ -31,72 +33,103 @@ const MAX_4: u64 = 0xffff_ffff;
 
 const MAX_8: u64 = 0xffff_ffff_ffff_ffff;
 
-/// The downlink layout of both 16 releases.
-#[rattlefmt::skip]
-const DL_16: [TableRow; 5] = [
-    TableRow { name: *b"HD0", item: Item { kind: Bits,   governor: None,                                 length: 1, mask: 252, limit: 0 } },               // QMP (bit 3), SNP (bit 2); bits 7 to 4 PDU Type
-    TableRow { name: *b"HD1", item: Item { kind: Bits,   governor: None,                                 length: 1, mask: 255, limit: 0 } },               // PPP (bit 7), RQI (bit 6), QoS Flow Identifier (bits 5 to 0)
-    TableRow { name: *b"PPI", item: Item { kind: Bits,   governor: Some(Governor { item: 1, bit: 7 }),   length: 1, mask: 224, limit: 0 } },               // Paging Policy Indicator (bits 7 to 5)
-    TableRow { name: *b"DST", item: Item { kind: Number, governor: Some(Governor { item: 0, bit: 3 }),   length: 8, mask: 0,   limit: MAX_8 } },           // DL Sending Time Stamp
-    TableRow { name: *b"DSN", item: Item { kind: Number, governor: Some(Governor { item: 0, bit: 2 }),   length: 3, mask: 0,   limit: MAX_3 } },           // DL QFI Sequence Number
-];
-
-/// The uplink layout of release 16.1.
-#[rattlefmt::skip]
-const UL_161: [TableRow; 8] = [
-    TableRow { name: *b"HD0", item: Item { kind: Bits,   governor: None,                                 length: 1, mask: 255, limit: 0 } },               // bits 7 to 4 PDU Type; QMP, DL Delay Ind., UL Delay Ind., SNP (bits 3 to 0)
-    TableRow { name: *b"HD1", item: Item { kind: Bits,   governor: None,                                 length: 1, mask: 63,  limit: 0 } },               // QoS Flow Identifier (bits 5 to 0)
-    TableRow { name: *b"DSR", item: Item { kind: Number, governor: Some(Governor { item: 0, bit: 3 }),   length: 8, mask: 0,   limit: MAX_8 } },           // DL Sending Time Stamp Repeated
-    TableRow { name: *b"DRT", item: Item { kind: Number, governor: Some(Governor { item: 0, bit: 3 }),   length: 8, mask: 0,   limit: MAX_8 } },           // DL Received Time Stamp
-    TableRow { name: *b"UST", item: Item { kind: Number, governor: Some(Governor { item: 0, bit: 3 }),   length: 8, mask: 0,   limit: MAX_8 } },           // UL Sending Time Stamp
-    TableRow { name: *b"DDR", item: Item { kind: Number, governor: Some(Governor { item: 0, bit: 2 }),   length: 4, mask: 0,   limit: MAX_4 } },           // DL Delay Result
-    TableRow { name: *b"UDR", item: Item { kind: Number, governor: Some(Governor { item: 0, bit: 1 }),   length: 4, mask: 0,   limit: MAX_4 } },           // UL Delay Result
-    TableRow { name: *b"USN", item: Item { kind: Number, governor: Some(Governor { item: 0, bit: 0 }),   length: 3, mask: 0,   limit: MAX_3 } },           // UL QFI Sequence Number
-];
-
-/// The uplink layout of release 16.3.
-#[rattlefmt::skip]
-const UL_163: [TableRow; 9] = [
-    TableRow { name: *b"HD0", item: Item { kind: Bits,   governor: None,                                 length: 1, mask: 255, limit: 0 } },               // bits 7 to 4 PDU Type; QMP, DL Delay Ind., UL Delay Ind., SNP (bits 3 to 0)
-    TableRow { name: *b"HD1", item: Item { kind: Bits,   governor: None,                                 length: 1, mask: 191, limit: 0 } },               // N3/N9 Delay Ind. (bit 7), QoS Flow Identifier (bits 5 to 0)
-    TableRow { name: *b"DSR", item: Item { kind: Number, governor: Some(Governor { item: 0, bit: 3 }),   length: 8, mask: 0,   limit: MAX_8 } },           // DL Sending Time Stamp Repeated
-    TableRow { name: *b"DRT", item: Item { kind: Number, governor: Some(Governor { item: 0, bit: 3 }),   length: 8, mask: 0,   limit: MAX_8 } },           // DL Received Time Stamp
-    TableRow { name: *b"UST", item: Item { kind: Number, governor: Some(Governor { item: 0, bit: 3 }),   length: 8, mask: 0,   limit: MAX_8 } },           // UL Sending Time Stamp
-    TableRow { name: *b"DDR", item: Item { kind: Number, governor: Some(Governor { item: 0, bit: 2 }),   length: 4, mask: 0,   limit: MAX_4 } },           // DL Delay Result
-    TableRow { name: *b"UDR", item: Item { kind: Number, governor: Some(Governor { item: 0, bit: 1 }),   length: 4, mask: 0,   limit: MAX_4 } },           // UL Delay Result
-    TableRow { name: *b"USN", item: Item { kind: Number, governor: Some(Governor { item: 0, bit: 0 }),   length: 3, mask: 0,   limit: MAX_3 } },           // UL QFI Sequence Number
-    TableRow { name: *b"NDR", item: Item { kind: Number, governor: Some(Governor { item: 1, bit: 7 }),   length: 4, mask: 0,   limit: MAX_4 } },           // N3/N9 Delay Result
-];
-
-/// The uplink layout of release 19.1.
-#[rattlefmt::skip]
-const UL_19: [TableRow; 15] = [
-    TableRow { name: *b"HD0", item: Item { kind: Bits,   governor: None,                                 length: 1, mask: 255, limit: 0 } },               // bits 7 to 4 PDU Type; QMP, DL Delay Ind., UL Delay Ind., SNP (bits 3 to 0)
-    TableRow { name: *b"HD1", item: Item { kind: Bits,   governor: None,                                 length: 1, mask: 255, limit: 0 } },               // N3/N9 Delay Ind. (bit 7), New IE Flag (bit 6), QoS Flow Identifier (bits 5 to 0)
-    TableRow { name: *b"DSR", item: Item { kind: Number, governor: Some(Governor { item: 0, bit: 3 }),   length: 8, mask: 0,   limit: MAX_8 } },           // DL Sending Time Stamp Repeated
-    TableRow { name: *b"DRT", item: Item { kind: Number, governor: Some(Governor { item: 0, bit: 3 }),   length: 8, mask: 0,   limit: MAX_8 } },           // DL Received Time Stamp
-    TableRow { name: *b"UST", item: Item { kind: Number, governor: Some(Governor { item: 0, bit: 3 }),   length: 8, mask: 0,   limit: MAX_8 } },           // UL Sending Time Stamp
-    TableRow { name: *b"DDR", item: Item { kind: Number, governor: Some(Governor { item: 0, bit: 2 }),   length: 4, mask: 0,   limit: MAX_4 } },           // DL Delay Result
-    TableRow { name: *b"UDR", item: Item { kind: Number, governor: Some(Governor { item: 0, bit: 1 }),   length: 4, mask: 0,   limit: MAX_4 } },           // UL Delay Result
-    TableRow { name: *b"USN", item: Item { kind: Number, governor: Some(Governor { item: 0, bit: 0 }),   length: 3, mask: 0,   limit: MAX_3 } },           // UL QFI Sequence Number
-    TableRow { name: *b"NDR", item: Item { kind: Number, governor: Some(Governor { item: 1, bit: 7 }),   length: 4, mask: 0,   limit: MAX_4 } },           // N3/N9 Delay Result
-    TableRow { name: *b"NIF", item: Item { kind: Bits,   governor: Some(Governor { item: 1, bit: 6 }),   length: 1, mask: 31,  limit: 0 } },               // New IE Flag 0 to 4
-    TableRow { name: *b"D1I", item: Item { kind: Bits,   governor: Some(Governor { item: 9, bit: 0 }),   length: 1, mask: 1,   limit: 0 } },               // D1 UL PDCP Delay Result Ind
-    TableRow { name: *b"UCI", item: Item { kind: Number, governor: Some(Governor { item: 9, bit: 1 }),   length: 2, mask: 0,   limit: 10000 } },           // UL Congestion Information
-    TableRow { name: *b"DCI", item: Item { kind: Number, governor: Some(Governor { item: 9, bit: 2 }),   length: 2, mask: 0,   limit: 10000 } },           // DL Congestion Information
-    TableRow { name: *b"UAB", item: Item { kind: Number, governor: Some(Governor { item: 9, bit: 3 }),   length: 4, mask: 0,   limit: 4000000000 } },      // UL Available Bitrate
-    TableRow { name: *b"DAB", item: Item { kind: Number, governor: Some(Governor { item: 9, bit: 4 }),   length: 4, mask: 0,   limit: 4000000000 } },      // DL Available Bitrate
-];
-
-/// Row number `i` of a table, and none past its end.
-fn nth_row(table: &[TableRow], i: usize) -> Option<TableRow>
-    ensures { option_map row_meaning result ≡ slice_get (map row_meaning table.now) i }
+/// What an item hangs on: this bit of this item.
+fn by(item: u8, bit: u8) -> Option<Governor>
+    requires { bit < 8 }
+    ensures { governor_meaning result ≡ governed_by item bit }
 {
-    if i < table.len() {
-        Some(table[i])
-    } else {
-        None
+    Some(Governor { item, bit })
+}
+
+/// A bits octet with its named bits.
+fn bits(letters: [u8; 3], governor: Option<Governor>, mask: u8) -> TableRow
+    ensures { row_meaning result ≡ record { name = letters; item = octet (governor_meaning governor) mask } }
+{
+    TableRow {
+        name: Name { letters },
+        item: Item {
+            kind: Kind::Bits,
+            governor,
+            length: 1,
+            mask,
+            limit: 0,
+        },
     }
+}
+
+/// A number of so many octets with its greatest value.
+fn number(letters: [u8; 3], governor: Option<Governor>, length: u8, limit: u64) -> TableRow
+    requires some { 1 ≤ «length» }
+    requires most { «length» ≤ 8 }
+    requires fits { limit < 256 ^ «length» }
+    ensures { row_meaning result ≡ record { name = letters; item = number_up_to (governor_meaning governor) «length» limit } }
+{
+    TableRow {
+        name: Name { letters },
+        item: Item {
+            kind: Kind::Number,
+            governor,
+            length,
+            mask: 0,
+            limit,
+        },
+    }
+}
+
+/// The downlink layout of both 16 releases.
+fn downlink(i: usize) -> Option<TableRow>
+    ensures { option_map row_meaning result ≡ slice_get dl_16 i }
+{
+    let row = match i {
+        0 => bits(*b"HD0", None, 252), // QMP (bit 3), SNP (bit 2); bits 7 to 4 PDU Type
+        1 => bits(*b"HD1", None, 255), // PPP (bit 7), RQI (bit 6), QoS Flow Identifier (bits 5 to 0)
+        2 => bits(*b"PPI", by(1, 7), 224), // Paging Policy Indicator (bits 7 to 5)
+        3 => number(*b"DST", by(0, 3), 8, MAX_8), // DL Sending Time Stamp
+        4 => number(*b"DSN", by(0, 2), 3, MAX_3), // DL QFI Sequence Number
+        _ => return None,
+    };
+    Some(row)
+}
+
+/// The items that all uplink layouts begin with; each release names further bits of HD1.
+fn uplink(i: usize, hd1: u8) -> Option<TableRow>
+    ensures { option_map row_meaning result ≡ slice_get (ul_first hd1) i }
+{
+    let row = match i {
+        0 => bits(*b"HD0", None, 255), // bits 7 to 4 PDU Type; QMP, DL Delay Ind., UL Delay Ind., SNP (bits 3 to 0)
+        1 => bits(*b"HD1", None, hd1), // QoS Flow Identifier (bits 5 to 0)
+        2 => number(*b"DSR", by(0, 3), 8, MAX_8), // DL Sending Time Stamp Repeated
+        3 => number(*b"DRT", by(0, 3), 8, MAX_8), // DL Received Time Stamp
+        4 => number(*b"UST", by(0, 3), 8, MAX_8), // UL Sending Time Stamp
+        5 => number(*b"DDR", by(0, 2), 4, MAX_4), // DL Delay Result
+        6 => number(*b"UDR", by(0, 1), 4, MAX_4), // UL Delay Result
+        7 => number(*b"USN", by(0, 0), 3, MAX_3), // UL QFI Sequence Number
+        _ => return None,
+    };
+    Some(row)
+}
+
+/// The item that release 16.3 adds.
+fn n3_n9_delay() -> TableRow
+    ensures { row_meaning result ≡ ndr }
+{
+    number(*b"NDR", by(1, 7), 4, MAX_4) // N3/N9 Delay Result
+}
+
+/// The items that release 19.1 adds behind it.
+fn new_elements(k: usize) -> Option<TableRow>
+    ensures { option_map row_meaning result ≡ slice_get ul_19_further k }
+{
+    let row = match k {
+        0 => bits(*b"NIF", by(1, 6), 31), // New IE Flag 0 to 4
+        1 => bits(*b"D1I", by(9, 0), 1), // D1 UL PDCP Delay Result Ind
+        2 => number(*b"UCI", by(9, 1), 2, 10000), // UL Congestion Information
+        3 => number(*b"DCI", by(9, 2), 2, 10000), // DL Congestion Information
+        4 => number(*b"UAB", by(9, 3), 4, 4000000000), // UL Available Bitrate
+        5 => number(*b"DAB", by(9, 4), 4, 4000000000), // DL Available Bitrate
+        _ => return None,
+    };
+    Some(row)
 }
 
 impl Published {
@@ -105,10 +138,10 @@ impl Published {
         ensures { result ≡ length (rows_of self) }
     {
         match self {
-            Published::Dl16 => DL_16.len(),
-            Published::Ul161 => UL_161.len(),
-            Published::Ul163 => UL_163.len(),
-            Published::Ul19 => UL_19.len(),
+            Published::Dl16 => 5,
+            Published::Ul161 => 8,
+            Published::Ul163 => 9,
+            Published::Ul19 => 15,
         }
     }
 
@@ -116,23 +149,14 @@ impl Published {
     pub(crate) fn row(self, i: usize) -> Option<TableRow>
         ensures { option_map row_meaning result ≡ slice_get (rows_of self) i }
     {
-        match self {
-            Published::Dl16 => nth_row(&DL_16, i),
-            Published::Ul161 => nth_row(&UL_161, i),
-            Published::Ul163 => nth_row(&UL_163, i),
-            Published::Ul19 => nth_row(&UL_19, i),
-        }
-    }
-
-    /// The name in row number `i`, and zeros past the end.
-    pub(crate) fn row_name(self, i: usize) -> [u8; 3]
-        ensures value { result ≡ name_at (published_names self) i }
-        ensures past { length (published_items self) ≤ i → result ≡ 0 ∷ 0 ∷ 0 ∷ [] }
-        ensures each { length (published_names self) ≡ length (published_items self) }
-    {
-        match self.row(i) {
-            Some(row) => row.name,
-            None => [0; 3],
+        match (self, i) {
+            (Published::Dl16, _) => downlink(i),
+            (Published::Ul161, _) => uplink(i, 0x3f),
+            (Published::Ul163, 0..=7) => uplink(i, 0xbf), // N3/N9 Delay Ind. (bit 7)
+            (Published::Ul19, 0..=7) => uplink(i, 0xff), // New IE Flag (bit 6) too
+            (Published::Ul163 | Published::Ul19, 8) => Some(n3_n9_delay()),
+            (Published::Ul163, _) => None,
+            (Published::Ul19, _) => new_elements(i - 9),
         }
     }
 }

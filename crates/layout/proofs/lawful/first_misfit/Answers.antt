@@ -1,32 +1,35 @@
-use Rattle.std.proofs.Common.{◌≡◌, refl, ◌∙◌, arith}
-use Rattle.layout.proofs.Nths.{le_from_nth}
+use Rattle.std.proofs.Common.{ℕ, sym, ap, ◌∙◌, subst, arith}
+use Rattle.layout.specs.Masks.{governor_fits_masks}
+use Rattle.layout.specs.Misfits.{MisfitsFirst}
+use Rattle.layout.specs.Views.{governor_meaning}
 use Rattle.layout.proofs.Made.{item_may_exist}
-use Rattle.layout.proofs.Misfits.{fitted_none, misfit_here, fitted_more, fitted_all}
+use Rattle.layout.proofs.Misfits.{misfit_here, fitted_more, fitted_all}
 use Rattle.layout.proofs.lawful.first_misfit.Goals as goal
-
-pub loop-i-init : goal.loop-i-init
-loop-i-init g c = fitted_none _ _ refl
-
-pub unreachable-requires : goal.unreachable-requires
-unreachable-requires g c =
-    let h = le_from_nth (g.L.Layout.meaning c.args.layout.now).items c.loop-i.i c.in_default.ensures in
-    omega arith
 
 pub returns-then-not-governor_fits : goal.returns-then-not-governor_fits
 returns-then-not-governor_fits g c =
-    record {
-      place = misfit_here _ _ _ _ c.loop-i.invariant c.in-Some.ensures _ c.if-not-governor_fits.ensures refl;
-      items = λ e. absurd (let b : ⊥ = omega (arith, e, c.loop-i-test.true) in b);
-    }
+    let given = rw c.loop-item.invariant.same at c.in-Some.ensures.steps.1 in
+    subst (λ (n : ℕ). MisfitsFirst (g.L.Layout.meaning c.args.items.layout.now).items n)
+    (sym (c.len.ensures.value ∙ c.loop-item.invariant.fitted.each))
+    (misfit_here _ _ _ _ c.loop-item.invariant.fitted given.item _
+    (c.governor_fits.ensures ∙ ap (governor_fits_masks (governor_meaning c.in-Some.item.governor)) c.deref.ensures.0)
+    c.if-not-governor_fits.true)
 
-pub loop-i-preserved : goal.loop-i-preserved
-loop-i-preserved g c =
-    fitted_more _ _ _ _ c.loop-i.invariant c.in-Some.ensures _ c.if-not-governor_fits.ensures refl (omega arith) (item_may_exist c.in-Some.item)
+pub loop-item-preserved : goal.loop-item-preserved
+loop-item-preserved g c =
+    let given = rw c.loop-item.invariant.same at c.in-Some.ensures.steps.1 in
+    record {
+      can = tt;
+      ends = tt;
+      same = ap (λ r. r.now) c.in-Some.ensures.steps.0.0 ∙ c.loop-item.invariant.same;
+      few = omega arith;
+      fitted =
+          fitted_more _ _ _ _ c.loop-item.invariant.fitted given.item _
+          (c.governor_fits.ensures ∙ ap (governor_fits_masks (governor_meaning c.in-Some.item.governor)) c.deref.ensures.0)
+          c.if-not-governor_fits.false (item_may_exist c.in-Some.item) _ given.next _ c.push.ensures.items;
+    }
 
 pub returns : goal.returns
 returns g c =
-    let e : c.args.count ≡ c.loop-i.i = omega arith in
-    record {
-      place = e ∙ fitted_all (g.L.Layout.meaning c.args.layout.now).items _ _ c.loop-i.invariant (omega arith);
-      items = λ _ j h. c.loop-i.invariant.made j (omega arith);
-    }
+    let left = rw c.loop-item.invariant.same at c.in-None.ensures.steps.1 in
+    fitted_all _ _ _ c.loop-item.invariant.fitted left.past
