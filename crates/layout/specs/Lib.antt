@@ -1,6 +1,7 @@
 pub mod Items
 pub mod Names
 pub mod Makers
+pub mod Sources
 pub mod Misfits
 pub mod Itemized
 pub mod Views

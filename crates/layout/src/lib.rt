@@ -12,4 +12,5 @@ pub mod maker;
 pub mod name;
 pub mod named;
 pub mod published;
+pub mod source;
 pub mod table;

@@ -1,9 +1,9 @@
 //! The published layouts as tables: 3GPP TS 38.415 v16.1.0, v16.3.0 and v19.1.0. A row is made when it is asked for: a constant
 //! that holds items would be built anew, whole, at each asking.
-ghost use Rattle.std.specs.Prelude.{◌≡◌, ◌^◌, ◌<◌, ◌≤◌, length};
+ghost use Rattle.std.specs.Prelude.{◌≡◌, ◌^◌, ◌<◌, ◌≤◌, [], ◌∷◌, length};
 ghost use Rattle.std.specs.List.{slice_get};
 ghost use Rattle.std.specs.Option.{option_map};
-ghost use Rattle.layout.specs.Items.{governed_by};
+ghost use Rattle.layout.specs.Items.{ungoverned, governed_by};
 ghost use Rattle.layout.specs.Tables.{dl_16, ul_first, ndr, ul_19_further, published as rows_of, row_meaning, octet, number_up_to};
 ghost use Rattle.layout.specs.Views.{governor_meaning};
 
@@ -25,6 +25,15 @@ pub enum Published {
 pub struct TableRow {
     pub name: Name,
     pub item: Item,
+}
+
+/// A nameless bits octet without named bits, which stands in the free places of a fixed table.
+impl Default for TableRow {
+    ghost is_default = { λ row. row_meaning row ≡ record { name = 0 ∷ 0 ∷ 0 ∷ []; item = octet ungoverned 0 } };
+
+    fn default() -> TableRow {
+        bits([0; 3], None, 0)
+    }
 }
 
 const MAX_3: u64 = 0xff_ffff;
