@@ -1,11 +1,10 @@
 -- Questions and answers: what a yes and a no leave, and what an answer says of its questions.
-use Rattle.std.proofs.Common.{◌≡◌, ℕ, Bool, true, false, IsErrAnd, IfOk, IfErr, Result, sym, refl, ap, ◌∙◌, subst, arith, MatchResult}
-use Rattle.std.proofs.lemmas.Result.{err_from_is_err_and}
+use Rattle.std.proofs.Common.{◌≡◌, Bool, true, false, IsErrAnd, IfOk, Result, Ok, Err, sym, refl, ap, ◌∙◌, subst, MatchResult}
 use Rattle.base.specs.declared.refusal.Refusal.{Refusal}
 use Rattle.base.specs.Answers.{Answer, refused, gives, ask, bind, answer_of}
 
 pub never : {A : Type 0} {r : Refusal} {a : A} {P : Type 0} → gives a ≡ refused r → P
-never e = let z : ◌≡◌ {A = ℕ} 0 1 = cc in absurd (let b : ⊥ = omega arith in b)
+never e = absurd (cc)
 
 pub gives_inj : {A : Type 0} {a b : A} → gives a ≡ gives b → a ≡ b
 gives_inj e = cc
@@ -45,19 +44,14 @@ bound (gives x) f y e = (x, refl, e)
 -- what a call answers where a `?` leaves it with the fault e
 pub answer_at_break : {T E A : Type 0} (f : T → A) (g : E → Refusal) (r : Result T E) (e : E) (a : Answer A)
     → IsErrAnd r (λ y. y ≡ e) → a ≡ refused (g e) → answer_of f g r ≡ a
-answer_at_break f g r e a by h =
-    let p = err_from_is_err_and r by in
-    ap (answer_of f g) p.1 ∙ ap (λ y. refused (g y)) p.2 ∙ sym h
+answer_at_break f g (Ok x) e a by h = absurd by
+answer_at_break f g (Err y) e a by h = ap (λ z. refused (g z)) by ∙ sym h
 
 -- the same for a clause by cases
 pub cases_at_break : {T E : Type 0} (P : T → Type 0) (Q : E → Type 0) (r : Result T E) (e : E) → IsErrAnd r (λ y. y ≡ e) → Q e → MatchResult r P Q
-cases_at_break P Q r e by h =
-    let p = err_from_is_err_and r by in
-    subst (λ x. MatchResult x P Q) (sym p.1) (subst Q (sym p.2) h)
+cases_at_break P Q (Ok x) e by h = absurd by
+cases_at_break P Q (Err y) e by h = subst Q (sym by) h
 
--- and for clauses of one case
+-- and for a clause that speaks of results alone
 pub made_at_break : {T E : Type 0} (P : T → Type 0) (r : Result T E) (e : E) → IsErrAnd r (λ y. y ≡ e) → IfOk r P
-made_at_break P r e by = let p = err_from_is_err_and r by in subst (λ x. IfOk x P) (sym p.1) tt
-
-pub refused_at_break : {T E : Type 0} (P : E → Type 0) (r : Result T E) (e : E) → IsErrAnd r (λ y. y ≡ e) → P e → IfErr r P
-refused_at_break P r e by h = let p = err_from_is_err_and r by in subst (λ x. IfErr x P) (sym p.1) (subst P (sym p.2) h)
+made_at_break P r e by = cases_at_break P (λ _. Unit {0}) r e by tt
