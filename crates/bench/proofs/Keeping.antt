@@ -1,11 +1,12 @@
 -- The start of a line as it is kept, and lines answered one after another.
-use Rattle.std.proofs.Common.{◌≡◌, ℕ, zero, suc, ◌+◌, ◌-◌, ◌<◌, ◌≤◌, min, true, false, eqb, List, [], ◌∷◌, ◌++◌, length, take, sym, refl, ap, ◌∙◌, subst, ap₂, ⊎_elim, append_assoc, append-nil, arith}
+use Rattle.std.proofs.Common.{◌≡◌, ℕ, zero, suc, ◌+◌, ◌-◌, ◌<◌, ◌≤◌, min, true, false, eqb, List, [], ◌∷◌, ◌++◌, length, take, sym, refl, ap, ◌∙◌, subst, ap₂, ⊎_elim, append_assoc, append-nil, Result, arith}
 use lib.Seq.{take-append-add}
 use Rattle.std.proofs.lemmas.List.{take_all, take-append-le, length-take}
 use Rattle.std.proofs.lemmas.Bool.{cases_lt, eqb-true, eqb-false}
 use Rattle.layout.specs.declared.table.Published.{Published}
 use Rattle.layout.specs.declared.table.Published.TheVariants.{Dl16, Ul161, Ul163, Ul19}
 use Rattle.frame.specs.declared.row.Row.{Row}
+use Rattle.base.specs.declared.refusal.Refusal.{Refusal}
 use Rattle.bench.specs.declared.reply.Reply.{Reply}
 use Rattle.bench.specs.declared.state.Bench.{Bench}
 use Rattle.bench.specs.Inputs.{NoEnd}
@@ -61,7 +62,7 @@ none_if_long l h = record {
   no_read_line = λ p q. let e = ap length q in omega (arith, e, length_layout p, h);
 }
 
-answered_kept : (l : List ℕ) (b a : Bench) (t u : List Row) (r : Reply) → Answered (kept l) b a t u r → Answered l b a t u r
+answered_kept : (l : List ℕ) (b a : Bench) (t u : List Row) (r : Result Reply Refusal) → Answered (kept l) b a t u r → Answered l b a t u r
 answered_kept l b a t u r h = ⊎_elim short long (cases_lt (length l) 18435)
   where
     short : length l < 18435 → Answered l b a t u r
@@ -114,7 +115,7 @@ pub last_answers : (l items : List ℕ) (n : ℕ) (d e : Desk) → n ≡ length 
 last_answers [] items n d e en t h a = absurd (eqb-false n 0 (sym t) (en ∙ ap length h))
 last_answers (x ∷ xs) items n d e en t h a = (e, a, refl)
 
-pub answered_line : (x l : List ℕ) (b a : Bench) (t u : List Row) (r : Reply) → x ≡ kept l → Answered x b a t u r → Answered l b a t u r
+pub answered_line : (x l : List ℕ) (b a : Bench) (t u : List Row) (r : Result Reply Refusal) → x ≡ kept l → Answered x b a t u r → Answered l b a t u r
 answered_line x l b a t u r e h = answered_kept l b a t u r (subst (λ (y : List ℕ). Answered y b a t u r) e h)
 
 pub answers_begun : (l part : List ℕ) (d e : Desk) → l ≡ [] → AnswersLine part d e → AnswersLine (l ++ part) d e

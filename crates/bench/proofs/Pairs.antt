@@ -84,8 +84,3 @@ are_pairs os h some most =
     and_from _ _ (lt-ltb 0 (length (hex_pairs os)) (omega arith))
     (and_from _ _ (eq-eqb (length (hex_pairs os) % 2) 0 (omega arith))
     (and_from _ _ (le-leb (length (hex_pairs os)) 18432 (omega arith)) (digits_of os h)))
-
--- the test, digit by digit
-pub digits_more : (cs : List ℕ) (i : ℕ) (b : Bool) → i < length cs → b ≡ is_hex_digit (get_or cs i 0)
-    → are_hex_digits (drop i cs) ≡ (b && are_hex_digits (drop (i + 1) cs))
-digits_more cs i b h e = at_drop_more are_hex_digits cs i 0 h ∙ ap (λ (t : Bool). t && are_hex_digits (drop (i + 1) cs)) (sym e)

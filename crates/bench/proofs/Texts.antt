@@ -1,29 +1,19 @@
 -- Lines by their octets.
-use Rattle.std.proofs.Common.{◌≡◌, ℕ, suc, ◌-◌, ◌%◌, ◌≤◌, true, false, eqb, ltb, leb, List, [], ◌∷◌, length, get_or, take, drop, sym, ap, ◌∙◌, ap₂, arith, take_all}
+use Rattle.std.specs.Bool.{then_some}
+use Rattle.std.proofs.Common.{Bool, Bor, MatchOption, ◌≡◌, ℕ, ◌%◌, true, false, eqb, ltb, leb, List, ◌∷◌, length, get_or, drop, sym, ap, ◌∙◌, ap₂, arith}
 use Rattle.std.proofs.lemmas.Bool.{ltb-true, leb-true, eqb-true, and_parts}
 use Rattle.layout.specs.declared.table.Published.{Published}
-use Rattle.bench.specs.Lines.{hex_pairs, layout_text, IsPacketLine, IsReadLine, IsNoCommand}
+use Rattle.bench.specs.declared.line.Command.TheVariants.{Packet}
+use Rattle.bench.specs.Lines.{hex_pairs, layout_text, IsPacketLine, IsReadLine, IsCommand, IsNoCommand}
 use Rattle.bench.specs.Tests.{are_hex_digits, are_hex_pairs}
 use Rattle.bench.proofs.Pairs.{written, are_pairs}
-
-pub one_octet : (xs : List ℕ) (c : ℕ) → length xs ≡ 1 → get_or xs 0 0 ≡ c → xs ≡ c ∷ []
-one_octet [] c l e = absurd (let b : ⊥ = omega arith in b)
-one_octet (x ∷ []) c l e = ap (λ (k : ℕ). k ∷ []) e
-one_octet (x ∷ y ∷ xs) c l e = absurd (let b : ⊥ = omega arith in b)
-
-pub two_octets : (xs : List ℕ) (c : ℕ) → 2 ≤ length xs → get_or xs 1 0 ≡ c → xs ≡ get_or xs 0 0 ∷ c ∷ take (length xs - 2) (drop 2 xs)
-two_octets [] c l e = absurd (let b : ⊥ = omega arith in b)
-two_octets (x ∷ []) c l e = absurd (let b : ⊥ = omega arith in b)
-two_octets (x ∷ y ∷ xs) c l e =
-    let n : length xs ≤ suc (suc (length xs)) - 2 = omega arith in
-    ap₂ (λ (k : ℕ) (r : List ℕ). x ∷ k ∷ r) e (sym (take_all (suc (suc (length xs)) - 2) xs n))
 
 module _ (line fields : List ℕ) (c : ℕ) (e : line ≡ c ∷ 32 ∷ fields) where
   letter_is : (d : ℕ) (rest : List ℕ) → line ≡ d ∷ 32 ∷ rest → (c ≡ d) × (fields ≡ rest)
   letter_is d rest f = (ap (λ (l : List ℕ). get_or l 0 0) (sym e ∙ f), ap (drop 2) (sym e ∙ f))
 
   -- `p` and pairs
-  pub packet_line : c ≡ 112 → true ≡ are_hex_pairs fields → (os : List ℕ) × (fields ≡ hex_pairs os) × IsPacketLine line os
+  packet_line : c ≡ 112 → true ≡ are_hex_pairs fields → (os : List ℕ) × (fields ≡ hex_pairs os) × IsPacketLine line os
   packet_line p t =
       let a = and_parts (ltb 0 (length fields)) _ (sym t) in
       let b = and_parts (eqb (length fields % 2) 0) _ a.1 in
@@ -44,7 +34,7 @@ module _ (line fields : List ℕ) (c : ℕ) (e : line ≡ c ∷ 32 ∷ fields) w
   no_read : c ≡ 112 → (l : Published) → IsReadLine line l → ⊥
   no_read p l h = let q = letter_is 114 (layout_text l) h in omega (arith, p, q.0)
 
-  pub no_pairs : c ≡ 112 → false ≡ are_hex_pairs fields → IsNoCommand line
+  no_pairs : c ≡ 112 → false ≡ are_hex_pairs fields → IsNoCommand line
   no_pairs p t = record {
     no_packet_line = λ os h.
         let q = letter_is 112 (hex_pairs os) h.text in
@@ -52,3 +42,9 @@ module _ (line fields : List ℕ) (c : ℕ) (e : line ≡ c ∷ 32 ∷ fields) w
         let z : ◌≡◌ {A = ℕ} 0 1 = cc in omega arith;
     no_read_line = no_read p;
   }
+
+-- a line with the letter `p`, by the test of its fields
+pub packet_told : (line : List ℕ) (f : Bor (List ℕ)) (c : ℕ) → line ≡ c ∷ 32 ∷ f.now → c ≡ 112 → (b : Bool) → b ≡ are_hex_pairs f.now
+    → MatchOption (then_some b (Packet f)) (IsNoCommand line) (λ d. IsCommand line d)
+packet_told line f c e p true t = packet_line line f.now c e p t
+packet_told line f c e p false t = no_pairs line f.now c e p t

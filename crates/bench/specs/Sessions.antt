@@ -1,5 +1,6 @@
 -- A session: lines answered one after another, in whatever parts their octets come.
-use Rattle.std.specs.Prelude.{◌≡◌, ℕ, List, [], ◌∷◌, ◌++◌, take, vec_items, string_bytes}
+use Rattle.std.specs.Prelude.{◌≡◌, ℕ, List, [], ◌∷◌, ◌++◌, take, vec_items, string_bytes, Result}
+use Rattle.base.specs.declared.refusal.Refusal.{Refusal}
 use Rattle.frame.specs.declared.row.Row.{Row}
 use Rattle.bench.specs.declared.reply.Reply.{Reply}
 use Rattle.bench.specs.declared.session.Session.{Session}
@@ -19,7 +20,7 @@ desk_of s = record { bench = s.bench; rows = s.rows; text = string_bytes s.text 
 
 -- a line answered
 pub record AnswersLine (line : List ℕ) (d e : Desk) : Type 0 where
-  pub reply : Reply
+  pub reply : Result Reply Refusal
   pub answered : Answered line d.bench e.bench d.rows e.rows reply
   pub text : e.text ≡ d.text ++ reply_text reply e.rows
 

@@ -20,14 +20,9 @@ impl Session {
     pub(crate) fn new(heap: Global) -> Session
         ensures { (result.bench.count ≡ 0) × (result.line.items ≡ []) × (string_bytes result.text ≡ []) }
     {
-        let row = Row {
-            present: false,
-            place: 0,
-            value: 0,
-        };
         Session {
             bench: Bench::new(),
-            rows: [row; MOST_ITEMS],
+            rows: [Row::default(); MOST_ITEMS],
             line: Vec::new(heap),
             text: String::new(heap),
         }

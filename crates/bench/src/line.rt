@@ -17,27 +17,21 @@ pub enum Command<'a> {
 fn letter_and_fields(line: &[u8]) -> Option<(u8, &[u8])>
     ensures { MatchOption result ((c : ℕ) (cs : List ℕ) → line.now ≢ c ∷ 32 ∷ cs) (λ p. line.now ≡ p.0 ∷ 32 ∷ p.1.now) }
 {
-    if line.len() < 2 {
-        return None;
+    match line {
+        [letter, b' ', fields @ ..] => Some((*letter, fields)),
+        _ => None,
     }
-    if line[1] != b' ' {
-        return None;
-    }
-    Some((line[0], &line[2..]))
 }
 
 /// The layout that a field names: `1` to `4`.
 fn layout_in(field: &[u8]) -> Option<Published>
     ensures { MatchOption result ((l : Published) → field.now ≢ layout_text l) (λ l. field.now ≡ layout_text l) }
 {
-    if field.len() != 1 {
-        return None;
-    }
-    match field[0] {
-        b'1' => Some(Published::Dl16),
-        b'2' => Some(Published::Ul161),
-        b'3' => Some(Published::Ul163),
-        b'4' => Some(Published::Ul19),
+    match field {
+        [b'1'] => Some(Published::Dl16),
+        [b'2'] => Some(Published::Ul161),
+        [b'3'] => Some(Published::Ul163),
+        [b'4'] => Some(Published::Ul19),
         _ => None,
     }
 }
@@ -46,19 +40,14 @@ fn layout_in(field: &[u8]) -> Option<Published>
 fn is_digit(octet: u8) -> bool
     ensures { result ≡ is_hex_digit octet }
 {
-    (b'0' <= octet && octet <= b'9') || (b'A' <= octet && octet <= b'F')
+    matches!(octet, b'0'..=b'9' | b'A'..=b'F')
 }
 
 /// Whether each octet is a hexadecimal digit in capitals.
 fn are_digits(field: &[u8]) -> bool
     ensures { result ≡ are_hex_digits field.now }
 {
-    for octet in field {
-        if !is_digit(*octet) {
-            return false;
-        }
-    }
-    true
+    field.iter().all(|octet| is_digit(*octet))
 }
 
 /// Whether a field is 1 to 9,216 hexadecimal pairs.
@@ -73,21 +62,10 @@ fn are_pairs(field: &[u8]) -> bool
 pub fn parse(line: &[u8]) -> Option<Command<'_>>
     ensures { MatchOption result (IsNoCommand line.now) (λ c. IsCommand line.now c) }
 {
-    let Some((letter, fields)) = letter_and_fields(line) else {
-        return None;
-    };
+    let (letter, fields) = letter_and_fields(line)?;
     match letter {
-        b'p' => {
-            if are_pairs(fields) {
-                Some(Command::Packet { digits: fields })
-            } else {
-                None
-            }
-        }
-        b'r' => match layout_in(fields) {
-            Some(layout) => Some(Command::Read { layout }),
-            None => None,
-        },
+        b'p' => are_pairs(fields).then_some(Command::Packet { digits: fields }),
+        b'r' => layout_in(fields).map(|layout| Command::Read { layout }),
         _ => None,
     }
 }

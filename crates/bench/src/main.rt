@@ -3,7 +3,7 @@
 
 mod answer;
 mod feed;
-mod hex;
+mod digits;
 mod input;
 mod line;
 mod print;

@@ -6,29 +6,26 @@ use crate::reply::Reply;
 use base::refusal::Refusal;
 use frame::row::Row;
 use layout::layout::Layout;
+use layout::name::Name;
 use layout::named::NamedLayout;
 use std::alloc::AllocError;
 
 /// Adds the line of an item that is present: its name and its value.
-fn push_row(out: &mut String, name: [u8; 3], row: Row) -> Result<(), AllocError>
-    ensures { OnOk result (string_bytes out.new ≡ string_bytes out.old ++ row_text name row) }
+fn push_row(out: &mut String, name: Name, row: Row) -> Result<(), AllocError>
+    ensures { OnOk result (string_bytes out.new ≡ string_bytes out.old ++ row_text name.letters row) }
 {
     if !row.present {
         return Ok(());
     }
     let value = row.value;
-    let [a, b, c] = name;
-    let a = char::from(a);
-    let b = char::from(b);
-    let c = char::from(c);
-    write!(out, "{a}{b}{c} {value}\n")
+    write!(out, "{name} {value}\n")
 }
 
 /// Adds the line of a refusal.
 fn push_no(out: &mut String, refusal: Refusal) -> Result<(), AllocError>
     ensures { OnOk result (string_bytes out.new ≡ string_bytes out.old ++ no_text refusal) }
 {
-    let number = refusal.number;
+    let number = refusal.question.number();
     let place = refusal.place;
     write!(out, "NO {number} {place}\n")
 }
@@ -44,9 +41,8 @@ fn push_ok(out: &mut String, count: usize) -> Result<(), AllocError>
 fn push_rows<N: NamedLayout>(out: &mut String, layout: &N, rows: &[Row]) -> Result<(), AllocError>
     ensures { OnOk result (string_bytes out.new ≡ string_bytes out.old ++ rows_text (N.names layout.now) 0 (take (length (N.meaning layout.now).items) rows.now)) }
 {
-    let count = layout.count().min(rows.len());
-    for i in 0..count {
-        push_row(out, layout.name(i), rows[i])?;
+    for (i, row) in rows.iter().take(layout.count()).enumerate() {
+        push_row(out, layout.name(i), *row)?;
     }
     Ok(())
 }
@@ -65,12 +61,16 @@ fn push_shown<N: NamedLayout>(
 }
 
 /// Adds the lines of a reply; the rows of a read are in the table.
-pub fn push_reply(out: &mut String, reply: Reply, rows: &[Row]) -> Result<(), AllocError>
+pub fn push_reply(
+    out: &mut String,
+    reply: Result<Reply, Refusal>,
+    rows: &[Row],
+) -> Result<(), AllocError>
     ensures { OnOk result (string_bytes out.new ≡ string_bytes out.old ++ reply_text reply rows.now) }
 {
     match reply {
-        Reply::Refused(refusal) => push_no(out, refusal),
-        Reply::Kept { count } => push_ok(out, count),
-        Reply::Shown { layout, present } => push_shown(out, &layout, rows, present),
+        Err(refusal) => push_no(out, refusal),
+        Ok(Reply::Kept { count }) => push_ok(out, count),
+        Ok(Reply::Shown { layout, present }) => push_shown(out, &layout, rows, present),
     }
 }

@@ -1,11 +1,9 @@
-//! What the bench answers to a line.
-use base::refusal::Refusal;
+//! What the bench answers to a line that it accepts.
 use layout::table::Published;
 
-/// A refusal, the count of the packet that is kept now, or what a read by a layout shows: the rows are in the table.
-#[derive(Clone, Copy)]
+/// The count of the packet that is kept now, or what a read by a layout shows: the rows are in the table.
+#[derive(Clone, Copy, PartialEq, Eq, Debug)]
 pub enum Reply {
-    Refused(Refusal),
     Kept { count: usize },
     Shown { layout: Published, present: usize },
 }

@@ -1,8 +1,8 @@
 //! The frame of a layout, drawn with eight columns, bit 7 to 0.
 use crate::role::Role;
 use crate::roles::role_of;
-use crate::table::name_text;
 use layout::item::Item;
+use layout::items::Items;
 use layout::kind::Kind;
 use layout::named::NamedLayout;
 
@@ -16,7 +16,7 @@ fn draw_bit<N: NamedLayout>(rt: &HostRuntime, layout: &N, role: Role) -> anyhow:
         Role::Value => print!(rt; "|value")?,
         Role::Spare => print!(rt; "|spare")?,
         Role::Flag { item } => {
-            let name = name_text(rt.alloc(), layout.name(item))?;
+            let name = layout.name(item);
             print!(rt; "|{name}? ")?;
         }
     }
@@ -46,7 +46,7 @@ fn draw_item<N: NamedLayout>(
     i: usize,
     item: &Item,
 ) -> anyhow::Result<()> {
-    let name = name_text(rt.alloc(), layout.name(i))?;
+    let name = layout.name(i);
     match item.kind {
         Kind::Bits => draw_octet(rt, layout, i, item.mask)?,
         Kind::Number => print!(rt; "|                      {name}                      ")?,
@@ -64,10 +64,8 @@ fn draw_item<N: NamedLayout>(
 pub(crate) fn draw<N: NamedLayout>(rt: &HostRuntime, layout: &N) -> anyhow::Result<()> {
     println!(rt; "   7     6     5     4     3     2     1     0     octets")?;
     println!(rt; "{RULE}")?;
-    for i in 0..layout.count() {
-        if let Some(item) = layout.item(i) {
-            draw_item(rt, layout, i, &item)?;
-        }
+    for (i, item) in Items::new(layout).enumerate() {
+        draw_item(rt, layout, i, &item)?;
     }
     println!(rt; "|                    padding                    |  0 to 3")?;
     println!(rt; "{RULE}")?;

@@ -4,6 +4,7 @@
 #![tactic(auto)]
 
 mod figure;
+mod outcome;
 mod role;
 mod roles;
 mod show;
@@ -12,40 +13,45 @@ mod table;
 mod verdict;
 
 use anyhow::anyhow;
-use show::{answer_one, answer_two};
+use outcome::Outcome;
+use show::Show;
+use source::ask;
 use std::env;
+use verdict::Below;
+
+/// Answers a request: for one layout, or whether the second extends the first.
+fn answer(rt: &HostRuntime, first: &str, second: Option<&str>) -> anyhow::Result<Outcome> {
+    match second {
+        Some(second) => ask(rt, first, &Below { second }),
+        None => ask(rt, first, &Show),
+    }
+}
 
 /// Answers each line of standard input: one layout, or two with a space between.
-fn answer_lines(rt: &HostRuntime) -> anyhow::Result<bool> {
+fn answer_lines(rt: &HostRuntime) -> anyhow::Result<Outcome> {
     for line in rt.lines(rt.alloc()) {
         let line = line?;
         println!(rt; "# {line}")?;
         let first = line.split(' ').next().unwrap_or("");
-        match line.split(' ').nth(1) {
-            Some(second) => answer_two(rt, first, second)?,
-            None => answer_one(rt, first)?,
-        };
+        answer(rt, first, line.split(' ').nth(1))?;
         println!(rt; "")?;
     }
-    Ok(true)
+    Ok(Outcome::Answered)
 }
 
-/// Answers the arguments, or standard input where there are none; answers whether nothing was refused.
-fn run(rt: &HostRuntime) -> anyhow::Result<bool> {
+/// Answers the arguments, or standard input where there are none.
+fn run(rt: &HostRuntime) -> anyhow::Result<Outcome> {
     let mut words = env::args(rt)?.skip(1);
     let Some(first) = words.next() else {
         return answer_lines(rt);
     };
-    let Some(second) = words.next() else {
-        return answer_one(rt, first.as_str());
-    };
-    answer_two(rt, first.as_str(), second.as_str())
+    let second = words.next();
+    answer(rt, first.as_str(), second.as_ref().map(|word| word.as_str()))
 }
 
 fn main(rt: HostRuntime) -> anyhow::Result<()> {
-    if run(&rt)? {
-        Ok(())
-    } else {
-        Err(anyhow!("refused"))
+    match run(&rt)? {
+        Outcome::Answered => Ok(()),
+        Outcome::Refused => Err(anyhow!("refused")),
     }
 }

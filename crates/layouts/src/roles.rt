@@ -5,6 +5,7 @@ ghost use Rattle.layout.specs.Views.{governor_meaning};
 ghost use Rattle.layouts.specs.Roles.{Governs, NoneBelow, HasRole};
 
 use crate::role::Role;
+use layout::items::Items;
 use layout::kind::Governor;
 use layout::layout::Layout;
 
@@ -12,25 +13,14 @@ use layout::layout::Layout;
 fn is_bit(governor: Option<Governor>, item: usize, bit: u8) -> bool
     ensures { MatchBool result (governor_meaning governor ≡ governed_by item bit) (governor_meaning governor ≢ governed_by item bit) }
 {
-    match governor {
-        None => false,
-        Some(g) => g.item as usize == item && g.bit == bit,
-    }
+    governor.is_some_and(|g| usize::from(g.item) == item && g.bit == bit)
 }
 
 /// The first item that a bit governs.
 fn first_governed<L: Layout>(layout: &L, item: usize, bit: u8) -> Option<usize>
     ensures { MatchOption result (NoneBelow (L.meaning layout.now).items item bit (length (L.meaning layout.now).items)) (λ j. (j < length (L.meaning layout.now).items) × Governs (L.meaning layout.now).items item bit j × NoneBelow (L.meaning layout.now).items item bit j) }
 {
-    for j in 0..layout.count() {
-        let Some(governed) = layout.item(j) else {
-            unreachable();
-        };
-        if is_bit(governed.governor, item, bit) {
-            return Some(j);
-        }
-    }
-    None
+    Items::new(layout).position(|governed| is_bit(governed.governor, item, bit))
 }
 
 /// The role of a bit of item number `item`, which has this mask.

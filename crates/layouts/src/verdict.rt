@@ -1,18 +1,20 @@
 //! Whether one layout extends another, in words.
-use crate::show::refuse;
+use crate::outcome::Outcome;
+use crate::source::{Request, ask, refuse};
 use layout::layout::Layout;
+use layout::named::NamedLayout;
 use pile::extends::extends;
-use pile::fault::{ExtendsFault, Part};
+use pile::fault::ExtendsFault;
 
-/// What is not alike, in words.
-fn part_name(part: Part) -> &'static str {
-    match part {
-        Part::Kind => "kind",
-        Part::Governor => "governor",
-        Part::Length => "length",
-        Part::Limit => "limit",
-        Part::Mask => "mask, which lacks a bit that is named below",
-    }
+/// Asks whether a second layout extends the one asked.
+pub(crate) struct Below<'a> {
+    pub second: &'a str,
+}
+
+/// Asks whether the layout asked extends a lower one.
+pub(crate) struct Above<'a, L: Layout> {
+    pub first: &'a str,
+    pub lower: &'a L,
 }
 
 /// Prints where the upper layout fails to extend the lower.
@@ -21,45 +23,60 @@ fn explain(
     first: &str,
     second: &str,
     fault: ExtendsFault,
-) -> anyhow::Result<bool> {
+) -> anyhow::Result<Outcome> {
     print!(rt; "{second} does not extend {first}: ")?;
     match fault {
         ExtendsFault::Lower(fault) => {
             println!(rt; "the lower layout is not lawful")?;
-            refuse(rt, first, fault.refusal())?;
+            refuse(rt, first, fault.into())?;
         }
         ExtendsFault::Upper(fault) => {
             println!(rt; "the upper layout is not lawful")?;
-            refuse(rt, second, fault.refusal())?;
+            refuse(rt, second, fault.into())?;
         }
         ExtendsFault::PduType { lower, upper } => {
             println!(rt; "PDU type {upper} over {lower}")?;
         }
         ExtendsFault::Missing { item } => println!(rt; "item {item} is missing")?,
         ExtendsFault::Unlike { item, part } => {
-            let part = part_name(part);
             println!(rt; "item {item} has another {part}")?;
         }
         ExtendsFault::Stray { item } => println!(rt;
             "item {item} has no governor, or hangs on a bit that is named below"
         )?,
     }
-    Ok(false)
+    Ok(Outcome::Refused)
 }
 
-/// Prints whether the upper layout extends the lower, and if not, where it first fails.
-pub(crate) fn compare<L: Layout, U: Layout>(
-    rt: &HostRuntime,
-    first: &str,
-    lower: &L,
-    second: &str,
-    upper: &U,
-) -> anyhow::Result<bool> {
-    match extends(lower, upper) {
-        Ok(()) => {
-            println!(rt; "{second} extends {first}")?;
-            Ok(true)
+impl<'a> Request for Below<'a> {
+    fn answer<N: NamedLayout>(
+        &self,
+        rt: &HostRuntime,
+        word: &str,
+        layout: &N,
+    ) -> anyhow::Result<Outcome> {
+        let above = Above {
+            first: word,
+            lower: layout,
+        };
+        ask(rt, self.second, &above)
+    }
+}
+
+impl<'a, L: Layout> Request for Above<'a, L> {
+    fn answer<N: NamedLayout>(
+        &self,
+        rt: &HostRuntime,
+        word: &str,
+        layout: &N,
+    ) -> anyhow::Result<Outcome> {
+        let first = self.first;
+        match extends(self.lower, layout) {
+            Ok(()) => {
+                println!(rt; "{word} extends {first}")?;
+                Ok(Outcome::Answered)
+            }
+            Err(fault) => explain(rt, first, word, fault),
         }
-        Err(fault) => explain(rt, first, second, fault),
     }
 }

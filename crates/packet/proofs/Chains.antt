@@ -1,8 +1,9 @@
 -- The chain, a header at a time, and the theorem that a walk's headers are the packet's chain.
-use Rattle.std.proofs.Common.{◌≡◌, ℕ, zero, suc, ◌+◌, ◌-◌, ◌*◌, ◌%◌, ◌≤◌, true, false, ◌⊎◌, List, [], ◌∷◌, ◌++◌, length, get_or, take, drop, sym, refl, ap, ◌∙◌, subst, inl, inr, append_assoc, arith, length-append, length-drop}
-use Rattle.std.proofs.lemmas.List.{take-append-drop, take_at}
+use Rattle.std.proofs.Common.{◌≡◌, ℕ, zero, suc, ◌+◌, ◌-◌, ◌*◌, ◌%◌, ◌≤◌, true, false, ◌⊎◌, List, [], ◌∷◌, ◌++◌, length, get_or, drop, sym, refl, ap, ◌∙◌, subst, inl, inr, append_assoc, arith, length-append, length-drop}
+use Rattle.std.proofs.lemmas.List.{take-append-drop}
 use Rattle.std.proofs.lemmas.List.Edits.{length-between}
 use Rattle.std.proofs.lemmas.Bool.{cases_Bool, cases_eq, eq-eqb, ne_eqb}
+use Rattle.std.proofs.lemmas.Grind.{common_steps}
 use Rattle.base.specs.declared.question.Question.TheVariants as Q
 use Rattle.base.specs.Answers.{refused, gives, ask, bind, no_to}
 use Rattle.base.proofs.Asking.{never, gives_inj, ask_yes, ask_no, bind_gives, bound}
@@ -55,11 +56,7 @@ module _ (t p : ℕ) (o : List ℕ) (c : Chain) (some : t ≡ 0 → ⊥) (fits :
         first = refl;
         places = (some, omega arith, refl, subst (λ m. InPlace m c.headers) on l.places);
         back = l.back;
-        octets = header_apart o fits
-            ∙ ap (λ m. m ∷ (header_content o ++ next_type o ∷ behind o)) (sym units_header)
-            ∙ ap (λ r. units h ∷ (header_content o ++ next_type o ∷ r)) l.octets
-            ∙ ap (λ m. units h ∷ (header_content o ++ m ∷ (laid_out c.headers ++ l.back))) l.first
-            ∙ ap (λ r. units h ∷ r) (sym (append_assoc (header_content o) (announced c.headers ∷ laid_out c.headers) l.back));
+        octets = cc (header_apart o fits, units_header, l.octets, l.first, append_assoc (header_content o) (announced c.headers ∷ laid_out c.headers) l.back);
         to = simp length-append (omega (arith, l.to));
       }
 
@@ -95,11 +92,12 @@ chain_before turns p t h r c some quarter at rest =
     let n = units h in
     let o = n ∷ (h.content ++ t ∷ r) in
     let whole : 4 * n ≡ length h.content + 2 = omega arith in
-    let type = ap (λ m. chain_from turns m (p + 4 * n) (behind o)) (next_type_made n t h.content r whole) in
-    let octets = ap (chain_from turns t (p + 4 * n)) (behind_made n t h.content r whole) in
+    let content = header_content_made n t h.content r whole in
+    let meets : chain_from turns (next_type o) (p + 4 * n) (behind o) ≡ gives c =
+    cc (next_type_made n t h.content r whole, behind_made n t h.content r whole, rest) in
     chain_goes_on turns h.type p o some (header_fits_made n t h.content r whole)
-    ∙ bind_gives (chain_from turns (next_type o) (p + 4 * n) (behind o)) _ c (type ∙ octets ∙ rest)
-    ∙ ap (λ l. gives (before (record { type = h.type; place = p; content = l }) c)) (header_content_made n t h.content r whole)
+    ∙ bind_gives (chain_from turns (next_type o) (p + 4 * n) (behind o)) _ c meets
+    ∙ ap (λ l. gives (before (record { type = h.type; place = p; content = l }) c)) content
     ∙ ap (λ q. gives (before (record { type = h.type; place = q; content = h.content }) c)) (sym at)
 
 -- headers that are laid out are what the walk meets
@@ -124,7 +122,7 @@ laid_is_chain k c least l =
     record {
       first = l.first;
       places = l.places;
-      octets = ap (take (c.end - 12)) l.octets ∙ take_at (laid_out c.headers) l.back (c.end - 12) (omega (arith, l.to));
+      octets = grind (arith, common_steps, l.octets, l.to);
       inside = (omega (arith, l.to), omega (arith, l.to));
     }
 
@@ -143,10 +141,9 @@ unfolding chain_of
 is_chain_gives k c most i =
     let l = chain_is_laid k c i in
     let few : length (laid_out c.headers) ≤ 9215 = omega (arith, i.inside.1, l.to) in
-    ap (λ t. chain_from 9216 t 12 (drop 12 k)) l.first
-    ∙ ap (chain_from 9216 (announced c.headers) 12) l.octets
-    ∙ laid_chain 9215 12 c.headers l.back few l.places
-    ∙ ap (λ e. gives (record { headers = c.headers; end = e })) (sym l.to)
+    let meets = laid_chain 9215 12 c.headers l.back few l.places in
+    let same : chain_of k ≡ gives (record { headers = c.headers; end = 12 + length (laid_out c.headers) }) = cc (l.first, l.octets, meets) in
+    same ∙ ap (λ e. gives (record { headers = c.headers; end = e })) (sym l.to)
 
 pub walk_is_chain : WalkIsChain
 unfolding chain_of

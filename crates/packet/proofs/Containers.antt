@@ -1,19 +1,20 @@
 -- The one container of a packet: the questions in the code's order, and where a container that is found lies.
-use Rattle.std.proofs.Common.{◌≡◌, ℕ, ◌+◌, ◌-◌, ◌*◌, ◌<◌, ◌≤◌, true, false, cond, List, [], ◌∷◌, ◌++◌, length, get_or, take, drop, sym, refl, ap, ◌∙◌, subst, append_assoc, arith, length-append}
-use native.Mathlib.Nat.{sub-zero}
+use Rattle.std.proofs.Common.{◌≡◌, ℕ, ◌+◌, ◌*◌, ◌<◌, ◌≤◌, Bool, true, false, List, [], ◌∷◌, ◌++◌, length, get_or, take, drop, sym, refl, ap, ◌∙◌, subst, append_assoc, arith, length-append}
 use Rattle.std.specs.List.{AllByRecursion as All}
-use Rattle.std.proofs.lemmas.List.{drop-drop, get_or-drop, length-take-le, take_at}
+use Rattle.std.proofs.lemmas.List.{drop-drop, length-take-le, take_at}
 use Rattle.std.proofs.lemmas.Bool.Decides.{nat_tests}
+use Rattle.std.proofs.lemmas.Grind.{common_steps}
 use Rattle.base.specs.declared.refusal.Refusal.{Refusal}
 use Rattle.base.specs.declared.question.Question.TheVariants as Q
-use Rattle.base.specs.Answers.{Answer, refused, gives, bind, no_to}
-use Rattle.base.proofs.Asking.{never, gives_inj, ask_yes, asked_yes, bind_gives, bind_refused, bound}
+use Rattle.base.specs.Answers.{Answer, refused, gives, ask, bind, no_to}
+use Rattle.base.proofs.Asking.{answer_at_break, never, gives_inj, ask_yes, asked_yes, bind_gives, bind_refused, bound}
 use Rattle.packet.specs.Chains.{HeaderMeaning, Chain, chain_of}
-use Rattle.packet.specs.Containers.{Located, is_container, no_second, only_container, located_at}
-use Rattle.packet.specs.Containers.{count_right, flags_right, message_type_right, length_right, first_octets, located, container}
+use Rattle.packet.specs.Containers.{Located, only_container, located_at}
+use Rattle.packet.specs.Containers.{count_right, flags_right, message_type_right, length_right, first_octets, located, counted, container}
 use Rattle.packet.specs.Laws.{announced, units, laid_out, InPlace, Inside}
 use Rattle.packet.specs.Walks.{nothing, Walk, walk_on, walk_of, found_by}
 use Rattle.packet.proofs.Headers.{behind_made}
+use Rattle.packet.proofs.Only.{only, only_has}
 use Rattle.packet.proofs.Chains.{chain_is_laid, walk_is_chain}
 
 found_by_walk
@@ -24,30 +25,42 @@ unfolding bind walk_on
 found_by_walk k (refused r) = refl
 found_by_walk k (gives c) = refl
 
--- Questions 6 to 10 as the code puts them: the first octets, the walk, the one container.
--- `take (n - 0) b` is `&b[0..n]` as the check reads it.
-module _ (b : List ℕ) (n : ℕ) (least : 12 ≤ n) (most : n ≤ 9216) (held : n ≤ length b) where
-  container_by_walk : container b n ≡ bind (first_octets (take (n - 0) b)) (λ _. bind (walk_of (take (n - 0) b)) found_by)
-  unfolding container located
-  container_by_walk =
-      let k = take (n - 0) b in
-      ask_yes (count_right b n) (no_to Q.PacketCount n) (located (take n b)) (grind (arith, nat_tests))
-      ∙ ap (λ m. located (take m b)) (sym (sub-zero n))
-      ∙ ap (λ a. bind (first_octets k) (λ _. a)) (sym (found_by_walk k (chain_of k)))
+-- questions 6 to 10 as the code puts them: the first octets, the walk, the one container
+abbrev by_walk : List ℕ → Answer Located
+by_walk k = bind (first_octets k) (λ _. bind (walk_of k) found_by)
 
-  pub refused_by_first_octets : (r : Refusal) → refused r ≡ first_octets (take (n - 0) b) → container b n ≡ refused r
-  refused_by_first_octets r e = container_by_walk ∙ bind_refused (first_octets (take (n - 0) b)) _ r (sym e)
+-- question 5 before them
+module _ (b : List ℕ) (n : ℕ) where
+  container_by_walk : container b n ≡ bind (counted b n) by_walk
+  unfolding ask bind container located counted
+  container_by_walk = by (count_right b n)
+    where
+      by : (yes : Bool) → ask yes (no_to Q.PacketCount n) (located (take n b)) ≡ bind (ask yes (no_to Q.PacketCount n) (gives (take n b))) by_walk
+      by true = ap (λ a. bind (first_octets (take n b)) (λ _. a)) (sym (found_by_walk (take n b) (chain_of (take n b))))
+      by false = refl
 
-  given_by_first_octets : gives tt ≡ first_octets (take (n - 0) b) → container b n ≡ bind (walk_of (take (n - 0) b)) found_by
-  given_by_first_octets e = container_by_walk ∙ bind_gives (first_octets (take (n - 0) b)) _ tt (sym e)
+  pub refused_by_count : (r : Refusal) → refused r ≡ counted b n → container b n ≡ refused r
+  refused_by_count r e = container_by_walk ∙ bind_refused (counted b n) by_walk r (sym e)
 
-  pub refused_by_walk
-      : (r : Refusal) → gives tt ≡ first_octets (take (n - 0) b) → refused r ≡ walk_of (take (n - 0) b) → container b n ≡ refused r
-  refused_by_walk r first e = given_by_first_octets first ∙ bind_refused (walk_of (take (n - 0) b)) found_by r (sym e)
+  module _ (k : List ℕ) (right : gives k ≡ counted b n) where
+    given_by_count : container b n ≡ by_walk k
+    given_by_count = container_by_walk ∙ bind_gives (counted b n) by_walk k (sym right)
 
-  pub given_by_walk
-      : (w : Walk) → gives tt ≡ first_octets (take (n - 0) b) → gives w ≡ walk_of (take (n - 0) b) → container b n ≡ found_by w
-  given_by_walk w first e = given_by_first_octets first ∙ bind_gives (walk_of (take (n - 0) b)) found_by w (sym e)
+    pub refused_by_first_octets : (r : Refusal) → refused r ≡ first_octets k → container b n ≡ refused r
+    refused_by_first_octets r e = given_by_count ∙ bind_refused (first_octets k) _ r (sym e)
+
+    module _ (first : gives tt ≡ first_octets k) where
+      given_by_first_octets : container b n ≡ bind (walk_of k) found_by
+      given_by_first_octets = given_by_count ∙ bind_gives (first_octets k) _ tt (sym first)
+
+      pub refused_by_walk : (r : Refusal) → refused r ≡ walk_of k → container b n ≡ refused r
+      refused_by_walk r e = given_by_first_octets ∙ bind_refused (walk_of k) found_by r (sym e)
+
+      pub given_by_walk : (w : Walk) → gives w ≡ walk_of k → container b n ≡ found_by w
+      given_by_walk w e = given_by_first_octets ∙ bind_gives (walk_of k) found_by w (sym e)
+
+-- what a call that puts the questions in this order needs
+pub ruleset asked_in_order = (refused_by_count, refused_by_first_octets, refused_by_walk, given_by_walk, answer_at_break)
 
 -- that the answers to questions 5 to 10 are yes, with the chain and the container that they find
 pub record Accepted (b : List ℕ) (n : ℕ) (w : Located) : Type 0 where
@@ -62,7 +75,7 @@ pub record Accepted (b : List ℕ) (n : ℕ) (w : Located) : Type 0 where
   pub is : w ≡ located_at (take n b) chain.end header
 
 pub container-accepted : (b : List ℕ) (n : ℕ) (w : Located) → container b n ≡ gives w → Accepted b n w
-unfolding container located
+unfolding container located first_octets
 container-accepted b n w e =
     let k = take n b in
     let count = asked_yes (count_right b n) (no_to Q.PacketCount n) (located k) w e in
@@ -86,7 +99,7 @@ container-accepted b n w e =
 
 -- and the other way round
 pub accepted-container : (b : List ℕ) (n : ℕ) (w : Located) → Accepted b n w → container b n ≡ gives w
-unfolding container located
+unfolding container located first_octets
 accepted-container b n w a =
     let k = take n b in
     let flags = ask_yes (flags_right k) (no_to Q.Flags 0) _ a.flags in
@@ -109,18 +122,14 @@ record HeaderInside (k : List ℕ) (e : ℕ) (h : HeaderMeaning) : Type 0 where
 module _ (k : List ℕ) (p t : ℕ) (h : HeaderMeaning) (r : List ℕ) (at : h.place ≡ p) (whole : 4 * units h ≡ length h.content + 2)
     (apart : drop p k ≡ units h ∷ (h.content ++ t ∷ r)) where
   count_first : get_or k h.place 0 ≡ units h
-  count_first =
-      let here : h.place ≡ p + 0 = omega arith in
-      ap (λ m. get_or k m 0) here ∙ sym (get_or-drop p k 0 0) ∙ ap (λ l. get_or l 0 0) apart
+  count_first = grind (arith, common_steps)
 
   content_first : h.content ≡ take (length h.content) (drop (h.place + 1) k)
   content_first =
-      let body = ap (λ m. drop (m + 1) k) at ∙ sym (drop-drop 1 p k) ∙ ap (drop 1) apart in
-      sym (ap (take (length h.content)) body ∙ take_at h.content (t ∷ r) (length h.content) refl)
+      grind (arith, common_steps, drop-drop 1 p k, take_at h.content (t ∷ r) (length h.content) refl)
 
   drop_first : drop (p + 4 * units h) k ≡ r
-  drop_first =
-      sym (drop-drop (4 * units h) p k) ∙ ap (drop (4 * units h)) apart ∙ behind_made (units h) t h.content r whole
+  drop_first = grind (arith, common_steps, behind_made (units h) t h.content r whole)
 
 headers_inside
     : (k : List ℕ) (p e : ℕ) (hs : List HeaderMeaning) (back : List ℕ)
@@ -141,25 +150,6 @@ headers_inside k p e (h ∷ hs) back far o i to =
     let next = drop_first k p (announced hs) h r at whole apart in
     (first, headers_inside k (p + 4 * units h) e hs back (omega arith) next i.3 (omega arith))
 
--- what holds of each header holds of the only container
-no_second_is : (h g : HeaderMeaning) (hs : List HeaderMeaning) → no_second h hs ≡ gives g → h ≡ g
-no_second_is h g [] q = gives_inj q
-no_second_is h g (k ∷ ks) q =
-    elim (is_container k) as (λ b. cond b (refused (no_to Q.Container k.place)) (no_second h ks) ≡ gives g → h ≡ g) [
-      | true ↦ λ q. never (sym q)
-      | false ↦ λ q. no_second_is h g ks q
-    ] q
-
-only_has
-    : (P : HeaderMeaning → Type 0) (hs : List HeaderMeaning) (e : ℕ) (g : HeaderMeaning)
-    → All P hs → only_container hs e ≡ gives g → P g
-only_has P [] e g all q = never (sym q)
-only_has P (h ∷ hs) e g all q =
-    elim (is_container h) as (λ b. cond b (no_second h hs) (only_container hs e) ≡ gives g → P g) [
-      | true ↦ λ q. subst P (no_second_is h g hs q) all.0
-      | false ↦ λ q. only_has P hs e g all.1 q
-    ] q
-
 count_within : (b : List ℕ) (n : ℕ) → count_right b n ≡ true → (12 ≤ n) × (n ≤ 9216) × (n ≤ length b)
 count_within b n e = (grind (arith, nat_tests), grind (arith, nat_tests), grind (arith, nat_tests))
 
@@ -174,7 +164,7 @@ container_inside b n w e =
     let i = (walk_is_chain k (omega arith) (omega arith) c).0 a.walked in
     let l = chain_is_laid k c i in
     let all = headers_inside k 12 c.end c.headers l.back (omega arith) l.octets l.places l.to in
-    let h = only_has (HeaderInside k c.end) c.headers c.end a.header all a.only in
+    let h = only_has (HeaderInside k c.end) c.headers a.header all (only c.headers c.end a.header a.only) in
     subst (Inside b n) (sym a.is)
     (record {
       least = within.0;

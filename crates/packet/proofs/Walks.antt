@@ -1,29 +1,21 @@
 -- The walk, a header at a time: what it has seen, and that the rest of it gives what the whole gives.
-use Rattle.std.proofs.Common.{◌≡◌, ℕ, suc, ◌+◌, ◌-◌, ◌≤◌, Bool, true, false, cond, List, [], ◌∷◌, length, get_or, drop, sym, refl, ap, ◌∙◌, arith, length-drop}
-use Rattle.std.proofs.lemmas.List.{drop-drop}
+use Rattle.std.proofs.Common.{◌≡◌, ℕ, suc, ◌+◌, ◌-◌, ◌≤◌, List, [], ◌∷◌, length, get_or, drop, sym, refl, ap, ◌∙◌, arith, length-drop}
+use Rattle.std.proofs.lemmas.Bool.Decides.{nat_tests}
+use Rattle.std.proofs.lemmas.Grind.{common_steps}
 use Rattle.base.specs.declared.refusal.Refusal.{Refusal}
 use Rattle.base.specs.declared.question.Question.TheVariants as Q
 use Rattle.base.specs.Answers.{Answer, refused, gives, bind, no_to}
 use Rattle.base.proofs.Asking.{bind_gives, bind_refused}
 use Rattle.packet.specs.Chains.{HeaderMeaning, Chain, header_size, behind, header_at, size_answer, before, chain_from, chain_of}
-use Rattle.packet.specs.Containers.{is_container, no_second, only_container}
-use Rattle.packet.specs.Walks.{Seen, nothing, one, second, seen_after, only_after, walk_end, walk_on, walk_of}
+use Rattle.packet.specs.Walks.{Seen, nothing, one, second, seen_after, only_after, walk_on, walk_of}
 use Rattle.packet.proofs.Headers.{fits_size, size_gives, size_refused}
 use Rattle.packet.proofs.Chains.{chain_ends, chain_stops, chain_goes_on}
 
 only_after-more
     : (s : Seen) (h : HeaderMeaning) (hs : List HeaderMeaning) (e : ℕ)
     → only_after s (h ∷ hs) e ≡ only_after (seen_after s h) hs e
-only_after-more nothing h hs e = by (is_container h)
-  where
-    by : (b : Bool) → cond b (no_second h hs) (only_container hs e) ≡ only_after (cond b (one h) nothing) hs e
-    by true = refl
-    by false = refl
-only_after-more (one g) h hs e = by (is_container h)
-  where
-    by : (b : Bool) → cond b (refused (no_to Q.Container h.place)) (no_second g hs) ≡ only_after (cond b (second h.place) (one g)) hs e
-    by true = refl
-    by false = refl
+only_after-more nothing h hs e = grind (arith, nat_tests)
+only_after-more (one g) h hs e = grind (arith, nat_tests)
 only_after-more (second p) h hs e = refl
 
 walk_on-before
@@ -43,15 +35,24 @@ pub record Going (k : List ℕ) (t p : ℕ) (o : List ℕ) (s : Seen) : Type 0 w
   pub few : length o ≤ turns
   pub same : walk_of k ≡ walk_on s k (chain_from (suc turns) t p o)
 
-pub going_starts : (k : List ℕ) → 12 ≤ length k → length k ≤ 9216 → Going k (get_or k 11 0) 12 (drop 12 k) nothing
+pub going_starts : (k o : List ℕ) → 12 ≤ length k → length k ≤ 9216 → o ≡ drop 12 k → Going k (get_or k 11 0) 12 o nothing
 unfolding chain_of
-going_starts k least most =
-    record { within = least; rest = refl; turns = 9215; few = omega (arith, length-drop 12 k); same = refl }
+going_starts k o least most rest =
+    record {
+      within = least;
+      rest = rest;
+      turns = 9215;
+      few = omega (arith, ap length rest, length-drop 12 k);
+      same = ap (λ l. walk_on nothing k (chain_from 9216 (get_or k 11 0) 12 l)) (sym rest);
+    }
 
 module _ (k : List ℕ) (t p : ℕ) (o : List ℕ) (s : Seen) (g : Going k t p o s) where
-  pub going_ends : t ≡ 0 → walk_of k ≡ gives (walk_end s k (record { headers = []; end = p }))
+  pub going_ends : t ≡ 0 → walk_of k ≡ gives (record { only = only_after s [] p; end = p; inner = o })
   unfolding walk_on
-  going_ends z = g.same ∙ bind_gives (chain_from (suc g.turns) t p o) _ _ (chain_ends g.turns t p o z)
+  going_ends z =
+      g.same
+      ∙ bind_gives (chain_from (suc g.turns) t p o) _ _ (chain_ends g.turns t p o z)
+      ∙ ap (λ l. gives (record { only = only_after s [] p; end = p; inner = l })) (sym g.rest)
 
   pub going_stops : (r : Refusal) → (t ≡ 0 → ⊥) → refused r ≡ size_answer o p → walk_of k ≡ refused r
   unfolding walk_on
@@ -73,10 +74,10 @@ module _ (k : List ℕ) (t p : ℕ) (o : List ℕ) (s : Seen) (g : Going k t p o
       (omega arith, omega arith, ap length g.rest ∙ length-drop p k, omega arith)
 
   -- one header more, of n octets
-  pub Going-more
+  pub going_more
       : (n : ℕ) (back : List ℕ) (now : Seen) → (t ≡ 0 → ⊥) → gives n ≡ size_answer o p
       → back ≡ behind o → now ≡ seen_after s (header_at t p o) → Going k (get_or o (n - 1) 0) (p + n) back now
-  Going-more n back now some asked rest seen =
+  going_more n back now some asked rest seen =
       let a = size_gives o p n asked in
       let size = a.1 in
       let f = going_fits n asked in
@@ -86,7 +87,7 @@ module _ (k : List ℕ) (t p : ℕ) (o : List ℕ) (s : Seen) (g : Going k t p o
       let same = g.same in
       record {
         within = omega (arith, g.within);
-        rest = rest ∙ ap (λ m. drop m o) (sym size) ∙ ap (drop n) g.rest ∙ drop-drop n p k;
+        rest = grind (arith, common_steps, g.rest);
         turns = g.turns - 1;
         few = omega (arith, g.few);
         same = cc;

@@ -41,7 +41,7 @@ abbrev pub length_right : List ℕ → Bool
 length_right k = big_endian (take 2 (drop 2 k)) == length k - 8
 
 -- questions 6 to 8 of a packet's octets
-abbrev pub first_octets : List ℕ → Answer (Unit {0})
+unfoldable pub first_octets : List ℕ → Answer (Unit {0})
 first_octets k =
     ask (flags_right k) (no_to Q.Flags 0) (ask (message_type_right k) (no_to Q.MessageType 1) (ask (length_right k) (no_to Q.StatedLength 2) (gives tt)))
 
@@ -54,6 +54,10 @@ located k =
 -- question 5: has the packet 12 to 9,216 octets, all in the buffer?
 abbrev pub count_right : List ℕ → ℕ → Bool
 count_right buffer n = nat_le 12 n && (nat_le n 9216 && nat_le n (length buffer))
+
+-- question 5 of a packet, the first n octets of a buffer: its octets
+unfoldable pub counted : List ℕ → ℕ → Answer (List ℕ)
+counted buffer n = ask (count_right buffer n) (no_to Q.PacketCount n) (gives (take n buffer))
 
 -- questions 5 to 10 of a packet, the first n octets of a buffer
 unfoldable pub container : List ℕ → ℕ → Answer Located

@@ -50,27 +50,19 @@ pub fn step<'a>(kind: u8, rest: &'a [u8], place: usize) -> (Header<'a>, &'a [u8]
 fn stated_size(rest: &[u8]) -> usize
     ensures { result ≡ header_size rest.now }
 {
-    if rest.is_empty() {
-        0
-    } else {
-        4 * rest[0] as usize
-    }
+    rest.first().map_or(0, |units| 4 * usize::from(*units))
 }
 
 // The octets from `from` up to `to`, those of them that there are.
 fn octets_between(octets: &[u8], from: usize, to: usize) -> &[u8]
     ensures { result.now ≡ between from to octets.now }
 {
-    octets_from(&octets[0..to.min(octets.len())], from)
+    octets_from(octets.get(..to).unwrap_or(octets), from)
 }
 
 // The octets from `from` on, those of them that there are.
 fn octets_from(octets: &[u8], from: usize) -> &[u8]
     ensures { result.now ≡ drop from octets.now }
 {
-    if from < octets.len() {
-        &octets[from..]
-    } else {
-        &[]
-    }
+    octets.get(from..).unwrap_or(&[])
 }

@@ -6,4 +6,5 @@ pub mod container;
 pub mod fault;
 pub mod header;
 pub mod octets;
+mod packet;
 mod walk;

@@ -1,8 +1,5 @@
-use Rattle.bench.proofs.Texts.{packet_line, no_pairs}
+use Rattle.bench.proofs.Texts.{packet_told}
 use Rattle.bench.proofs.line.parse.Goals as goal
 
-pub returns-then-are_pairs : goal.returns-then-are_pairs
-returns-then-are_pairs c = packet_line _ _ _ c.in-Some.ensures c.in-112.is c.if-are_pairs.ensures
-
-pub returns-else-are_pairs : goal.returns-else-are_pairs
-returns-else-are_pairs c = no_pairs _ _ _ c.in-Some.ensures c.in-112.is c.if-are_pairs.ensures
+pub returns-in-112 : goal.returns-in-112
+returns-in-112 c = rw c.then_some.ensures (packet_told _ _ _ c.in_ok-letter.ensures c.in-112.is _ c.are_pairs.ensures)
