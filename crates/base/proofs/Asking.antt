@@ -1,5 +1,5 @@
 -- Questions and answers: what a yes and a no leave, and what an answer says of its questions.
-use Rattle.std.proofs.Common.{◌≡◌, Bool, true, false, IsErrAnd, IfOk, Result, Ok, Err, sym, refl, ap, ◌∙◌, subst, MatchResult}
+use Rattle.std.proofs.Common.{◌≡◌, Bool, true, false, IsErrAnd, IfOk, IfErr, Result, Ok, Err, sym, refl, ap, ◌∙◌, subst, MatchResult}
 use Rattle.base.specs.declared.refusal.Refusal.{Refusal}
 use Rattle.base.specs.Answers.{Answer, refused, gives, ask, bind, answer_of}
 
@@ -55,3 +55,7 @@ cases_at_break P Q (Err y) e by h = subst Q (sym by) h
 -- and for a clause that speaks of results alone
 pub made_at_break : {T E : Type 0} (P : T → Type 0) (r : Result T E) (e : E) → IsErrAnd r (λ y. y ≡ e) → IfOk r P
 made_at_break P r e by = cases_at_break P (λ _. Unit {0}) r e by tt
+
+-- and for one that speaks of faults alone
+pub refused_at_break : {T E : Type 0} (P : E → Type 0) (r : Result T E) (e : E) → IsErrAnd r (λ y. y ≡ e) → P e → IfErr r P
+refused_at_break P r e by h = cases_at_break (λ _. Unit {0}) P r e by h

@@ -5,6 +5,7 @@
 mod build;
 mod script;
 mod show;
+mod step;
 
 use script::run_sessions;
 

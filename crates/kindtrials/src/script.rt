@@ -6,44 +6,31 @@ use layout::table::Published;
 use layoutfile::file::FileLayout;
 use std::fs;
 
-/// Runs a session over a layout, at most three levels of it; answers the line behind it.
-fn run_over<N: NamedLayout + Drop>(
+/// Runs a session over a layout, at most three levels of it; answers the lines behind it.
+fn run_over<'a, N: NamedLayout + Drop>(
     rt: &HostRuntime,
-    lines: &[String],
-    start: usize,
+    lines: &'a [String],
     layout: N,
-) -> anyhow::Result<usize> {
+) -> anyhow::Result<&'a [String]> {
     let mut first = Extension::new(layout);
-    let at = run_level(rt, lines, start, &mut first)?;
+    let rest = run_level(rt, lines, &mut first)?;
     let mut second = Extension::new(first);
-    let at = run_level(rt, lines, at, &mut second)?;
+    let rest = run_level(rt, rest, &mut second)?;
     let mut third = Extension::new(second);
-    run_level(rt, lines, at, &mut third)
+    run_level(rt, rest, &mut third)
 }
 
-/// The published layout of a name.
-fn published(word: &str) -> Option<Published> {
-    match word {
-        "DL16" => Some(Published::Dl16),
-        "UL16.1" => Some(Published::Ul161),
-        "UL16.3" => Some(Published::Ul163),
-        "UL19" => Some(Published::Ul19),
-        _ => None,
-    }
-}
-
-/// Runs the session over the layout that a word names; answers the line behind it.
-fn run_session(
+/// Runs the session over the layout that a word names; answers the lines behind it.
+fn run_session<'a>(
     rt: &HostRuntime,
-    lines: &[String],
-    start: usize,
+    lines: &'a [String],
     word: &str,
-) -> anyhow::Result<usize> {
-    if let Some(layout) = published(word) {
-        return run_over(rt, lines, start, layout);
+) -> anyhow::Result<&'a [String]> {
+    if let Ok(layout) = word.parse::<Published>() {
+        return run_over(rt, lines, layout);
     }
     let octets = fs::read(rt, word)?;
-    run_over(rt, lines, start, FileLayout::new(&octets))
+    run_over(rt, lines, FileLayout::new(&octets))
 }
 
 /// Runs each session of standard input.
@@ -52,9 +39,9 @@ pub(crate) fn run_sessions(rt: &HostRuntime) -> anyhow::Result<()> {
     for line in rt.lines(rt.alloc()) {
         lines.push(line?)?;
     }
-    let mut at = 0usize;
+    let mut rest = lines.as_slice();
     for _ in 0..lines.len() {
-        let Some(line) = lines.get(at) else {
+        let Some((line, behind)) = rest.split_first() else {
             return Ok(());
         };
         let Some(word) = line.strip_prefix("layout ") else {
@@ -62,7 +49,7 @@ pub(crate) fn run_sessions(rt: &HostRuntime) -> anyhow::Result<()> {
             return Ok(());
         };
         println!(rt; "layout {word}")?;
-        at = run_session(rt, lines.as_slice(), at.saturating_add(1), word)?;
+        rest = run_session(rt, behind, word)?;
     }
     Ok(())
 }

@@ -1,13 +1,15 @@
 -- Deciding whether a layout extends another: what each comparison of the code adds.
-use Rattle.std.proofs.Common.{◌≡◌, ℕ, ◌+◌, ◌<◌, ◌≤◌, Bool, true, false, eqb, List, length, Some, MatchBool, sym, refl, ap, ◌∙◌, subst, inr, ⊎_elim, arith, below_more}
+use Rattle.std.proofs.Common.{◌≡◌, ℕ, ◌+◌, ◌<◌, ◌≤◌, List, length, Some, None, Ok, Err, Result, MatchResult, IfOk, sym, refl, ap, ◌∙◌, subst, ⊎_elim, arith, below_more}
 use Rattle.std.specs.List.{slice_get}
-use Rattle.std.proofs.lemmas.Bool.{cases_lt, eqb-true, eqb-false}
+use Rattle.std.proofs.lemmas.Bool.{cases_lt}
 use Rattle.base.specs.Answers.{gives}
-use Rattle.base.specs.Octets.{bit}
 use Rattle.base.proofs.Asking.{never}
-use Rattle.layout.specs.Items.{governed_by, ItemMeaning, Meaning, EachMayExist, item_at, no_item}
+use Rattle.layout.specs.declared.item.Item.{Item}
+use Rattle.layout.specs.Itemized.{ItemGiven}
+use Rattle.layout.specs.Views.{meant}
+use Rattle.layout.specs.Items.{ItemMeaning, Meaning, EachMayExist, item_at, no_item}
 use Rattle.layout.specs.Questions.{lawful}
-use Rattle.layout.proofs.Nths.{lt_from_nth, get_or-from_nth}
+use Rattle.layout.proofs.Nths.{lt_from_nth, le_from_nth, get_or-from_nth}
 use Rattle.layout.proofs.Passing.{lawful_any}
 use Rattle.pile.specs.declared.fault.Part.{Part}
 use Rattle.pile.specs.declared.fault.Part.TheVariants.{Kind, Governor, Length, Limit, Mask}
@@ -15,8 +17,22 @@ use Rattle.pile.specs.declared.fault.ExtendsFault.TheVariants.{Lower, Upper, Pdu
 use Rattle.pile.specs.Extends.{LawfulLayout, Alike, HangsAbove, Extends}
 use Rattle.pile.specs.Reasons.{Differs, Comparable, AlikeBelow, FurtherBelow, Reason, ReasonsExclude}
 
-pub lawful_layout : (o : ℕ) (m : Meaning) → EachMayExist m.items → gives tt ≡ lawful o m → LawfulLayout m
-lawful_layout o m e h = record { items = e; passes = lawful_any m o (sym h) }
+pub lawful_layout : (o : ℕ) (m : Meaning) → EachMayExist m.items → lawful o m ≡ gives tt → LawfulLayout m
+lawful_layout o m e h = record { items = e; passes = lawful_any m o h }
+
+-- behind what `map_err` made of a result: the value that it passed on, and the error that it changed
+pub ok_mapped : {T E : Type 0} (D : Type 0) (P : T → Type 0) (r : Result T E) (x : T) → IfOk r P → MatchResult r (λ y. ◌≡◌ {A = Result T D} (Ok x) (Ok y)) (λ e. ⊥) → P x
+ok_mapped D P (Ok y) x h m = let e : y ≡ x = cc in subst P e h
+ok_mapped D P (Err e) x h m = absurd m
+
+pub err_mapped : {T E D : Type 0} (f : E → D) (r : Result T E) (d : D) → MatchResult r (λ y. ◌≡◌ {A = Result T D} (Err d) (Ok y)) (λ e. d ≡ f e) → (e : E) × (r ≡ Err e) × (d ≡ f e)
+err_mapped f (Ok y) d m = cc
+err_mapped f (Err e) d m = (e, refl, m)
+
+-- what the code keeps of two lawful layouts of one type
+pub comparable : (o p : ℕ) (low up : Meaning) → EachMayExist low.items → lawful o low ≡ gives tt → EachMayExist up.items → lawful p up ≡ gives tt
+    → low.pdu_type ≡ up.pdu_type → Comparable low up
+comparable o p low up e f g h t = record { below = lawful_layout o low e f; above = lawful_layout p up g h; type = t }
 
 differs_alike : (p : Part) (l u : ItemMeaning) → Differs p l u → Alike l u → ⊥
 differs_alike Kind l u d a = d a.kind
@@ -40,27 +56,47 @@ at_place P low up i l u e f h =
     subst (λ (y : ItemMeaning). P (item_at low i) y) (sym (get_or-from_nth up i u no_item f))
     (subst (λ (x : ItemMeaning). P x u) (sym (get_or-from_nth low i l no_item e)) h)
 
-module _ (low up : Meaning) (i : ℕ) (l u : ItemMeaning) (e : Some l ≡ slice_get low.items i) where
-  pub alike_more : Some u ≡ slice_get up.items i → AlikeBelow low.items up.items i → Alike l u → AlikeBelow low.items up.items (i + 1)
-  alike_more f so a =
-      below_more _ _ so (lt_from_nth up.items i u f, at_place Alike low.items up.items i l u e f a)
+-- item l is given at place i of the lower layout, where the code looks as far as a: the item above is missing, unlike or alike
+module _ (low up : Meaning) (a i b : ℕ) (l : Item) (so : AlikeBelow low.items up.items a) (e : i ≡ a) (f : ItemGiven low.items a l b) where
+  before : AlikeBelow low.items up.items i
+  before = subst (AlikeBelow low.items up.items) (sym e) so
 
-  pub unlike_here : (o p : ℕ) (part : Part) → Some u ≡ slice_get up.items i → AlikeBelow low.items up.items i → Differs part l u → Comparable low up
-      → Reason o p low up (Unlike i part)
-  unlike_here o p part f so d c =
-      (c, so, lt_from_nth low.items i l e, lt_from_nth up.items i u f, at_place (Differs part) low.items up.items i l u e f d)
+  there : Some (meant l) ≡ slice_get low.items i
+  there = f.item ∙ ap (slice_get low.items) (sym e)
 
-pub further_more : (low up : List ItemMeaning) (i : ℕ) (u : ItemMeaning) → Some u ≡ slice_get up i → HangsAbove low u.governor
-    → FurtherBelow low up i → FurtherBelow low up (i + 1)
-further_more low up i u f h so j l k =
-    below_more (λ (n : ℕ). length low ≤ n → HangsAbove low (item_at up n).governor) i
-    (λ n m q. so n q m) (λ q. subst (λ (x : ItemMeaning). HangsAbove low x.governor) (sym (get_or-from_nth up i u no_item f)) h) j k l
+  pub alike_more : (u : ItemMeaning) → Some u ≡ slice_get up.items i → Alike (meant l) u → AlikeBelow low.items up.items b
+  alike_more u g h =
+      subst (AlikeBelow low.items up.items) (ap (λ (n : ℕ). n + 1) e ∙ sym f.next)
+      (below_more _ _ before (lt_from_nth up.items i u g, at_place Alike low.items up.items i (meant l) u there g h))
 
-pub stray_here : (o p : ℕ) (low up : Meaning) (i : ℕ) (u : ItemMeaning) → Some u ≡ slice_get up.items i → (HangsAbove low.items u.governor → ⊥)
-    → length low.items ≤ i → FurtherBelow low.items up.items i → Comparable low up → AlikeBelow low.items up.items (length low.items)
-    → Reason o p low up (Stray i)
-stray_here o p low up i u f h l so c a =
-    (c, a, so, l, lt_from_nth up.items i u f, λ x. h (subst (λ (x : ItemMeaning). HangsAbove low.items x.governor) (get_or-from_nth up.items i u no_item f) x))
+  module _ (o p : ℕ) (c : Comparable low up) where
+    pub missing_here : None ≡ slice_get up.items i → Reason o p low up (Missing i)
+    missing_here g = (c, before, omega (arith, e, f.within), le_from_nth up.items i g)
+
+    pub unlike_here : (u : ItemMeaning) (part : Part) → Some u ≡ slice_get up.items i → Differs part (meant l) u → Reason o p low up (Unlike i part)
+    unlike_here u part g d =
+        (c, before, omega (arith, e, f.within), lt_from_nth up.items i u g, at_place (Differs part) low.items up.items i (meant l) u there g d)
+
+-- an upper item given at place a, past the lower ones
+module _ (low up : Meaning) (a b : ℕ) (u : Item) (so : FurtherBelow low.items up.items a) (f : ItemGiven up.items a u b) where
+  here : (meant u).governor ≡ (item_at up.items a).governor
+  here = ap (λ (x : ItemMeaning). x.governor) (sym (get_or-from_nth up.items a (meant u) no_item f.item))
+
+  pub further_more : HangsAbove low.items (meant u).governor → FurtherBelow low.items up.items b
+  further_more h =
+      subst (FurtherBelow low.items up.items) (sym f.next)
+      (λ j l k. below_more (λ (n : ℕ). length low.items ≤ n → HangsAbove low.items (item_at up.items n).governor) a (λ n m q. so n q m) (λ q. subst (HangsAbove low.items) here h) j k l)
+
+  pub stray_here : (o p i : ℕ) → Comparable low up → AlikeBelow low.items up.items (length low.items) → i ≡ a → length low.items ≤ i
+      → (HangsAbove low.items (meant u).governor → ⊥) → Reason o p low up (Stray i)
+  stray_here o p i c al e l h = (
+    c,
+    al,
+    subst (FurtherBelow low.items up.items) (sym e) so,
+    l,
+    omega (arith, e, f.within),
+    λ x. h (subst (HangsAbove low.items) (ap (λ (n : ℕ). (item_at up.items n).governor) e ∙ sym here) x),
+  )
 
 -- the lower items come first where each of them is there above
 first_from : (low up : List ItemMeaning) → AlikeBelow low up (length low) → length low ≤ length up
@@ -77,15 +113,3 @@ extends_from low up n l so c a =
       alike = λ j h. (a j h).1;
       further = λ j h k. so j h (omega arith);
     }
-
--- a governor as the code finds it, where it names a lower item
-pub lies_above_lem : (low : List ItemMeaning) (g b : ℕ) (l : ItemMeaning) → g < length low → Some l ≡ slice_get low g
-    → MatchBool (eqb (bit b l.mask) 0) (HangsAbove low (governed_by g b)) (HangsAbove low (governed_by g b) → ⊥)
-lies_above_lem low g b l h e = by (eqb (bit b l.mask) 0) refl
-  where
-    same : bit b (item_at low g).mask ≡ bit b l.mask
-    same = ap (λ (x : ItemMeaning). bit b x.mask) (get_or-from_nth low g l no_item e)
-
-    by : (t : Bool) → eqb (bit b l.mask) 0 ≡ t → MatchBool t (HangsAbove low (governed_by g b)) (HangsAbove low (governed_by g b) → ⊥)
-    by true q = inr (same ∙ eqb-true (bit b l.mask) 0 q)
-    by false q = ⊎_elim (λ (k : length low ≤ g). omega arith) (λ (z : bit b (item_at low g).mask ≡ 0). eqb-false (bit b l.mask) 0 q (sym same ∙ z))

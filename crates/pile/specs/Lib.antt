@@ -1,2 +1,3 @@
 pub mod Extends
 pub mod Reasons
+pub mod Words

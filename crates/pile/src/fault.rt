@@ -1,5 +1,9 @@
 //! Why one layout does not extend another.
+ghost use Rattle.std.specs.Prelude.{Some};
+ghost use Rattle.pile.specs.Words.{part_words};
+
 use layout::fault::LayoutFault;
+use std::fmt;
 
 /// The part in which two items are not alike.
 #[derive(Clone, Copy, PartialEq, Eq, Debug)]
@@ -10,6 +14,21 @@ pub enum Part {
     Limit,
     /// A bit that the lower item names is spare in the upper.
     Mask,
+}
+
+/// The part in words, as they end the sentence that the upper item has another.
+impl fmt::Display for Part {
+    ghost output = { λ part. Some (part_words part) };
+
+    fn fmt<W: fmt::Write>(&self, f: &mut fmt::Formatter<W>) -> fmt::Result {
+        f.write_str(match self {
+            Part::Kind => "kind",
+            Part::Governor => "governor",
+            Part::Length => "length",
+            Part::Limit => "limit",
+            Part::Mask => "mask, which lacks a bit that is named below",
+        })
+    }
 }
 
 /// The first thing that fails. Items are counted from 0.

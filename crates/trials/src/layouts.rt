@@ -1,5 +1,6 @@
 //! Questions 1 to 3, the maker of items, and names.
 use crate::listed::Listed;
+use base::refusal::Refusal;
 use layout::item::Item;
 use layout::lawful::lawful;
 use layout::layout::Layout;
@@ -35,7 +36,7 @@ pub(crate) fn number(governor: u8, bit: u8, length: u8, limit: u64) -> RawItem {
 pub(crate) fn made(rt: &HostRuntime, raws: &[RawItem]) -> anyhow::Result<Vec<Item>> {
     let mut items = Vec::new(rt.alloc());
     for raw in raws {
-        if let Some(item) = Item::new(*raw) {
+        if let Ok(item) = Item::try_from(*raw) {
             items.push(item)?;
         }
     }
@@ -50,9 +51,9 @@ fn ask(rt: &HostRuntime, case: &str, raws: &[RawItem]) -> anyhow::Result<()> {
         items: &items,
     };
     match lawful(&layout) {
-        Ok(()) => println!(rt; "{case}: lawful")?,
+        Ok(_) => println!(rt; "{case}: lawful")?,
         Err(fault) => {
-            let refusal = fault.refusal();
+            let refusal = Refusal::from(fault);
             println!(rt; "{case}: {refusal}")?;
         }
     }
@@ -61,7 +62,7 @@ fn ask(rt: &HostRuntime, case: &str, raws: &[RawItem]) -> anyhow::Result<()> {
 
 /// Prints whether the raw values are an item.
 fn try_item(rt: &HostRuntime, case: &str, raw: RawItem) -> anyhow::Result<()> {
-    let answer = if Item::new(raw).is_some() {
+    let answer = if Item::try_from(raw).is_ok() {
         "an item"
     } else {
         "no item"
@@ -167,13 +168,10 @@ fn constant_of<L: Layout>(_layout: &L) -> u8 {
 /// Prints the names of a published layout, and the octets of the name past its end.
 fn name_items(rt: &HostRuntime, layout: Published) -> anyhow::Result<()> {
     for i in 0..layout.count() {
-        let [a, b, c] = layout.name(i);
-        let a = char::from(a);
-        let b = char::from(b);
-        let c = char::from(c);
-        print!(rt; "{a}{b}{c} ")?;
+        let name = layout.name(i);
+        print!(rt; "{name} ")?;
     }
-    let [a, b, c] = layout.name(layout.count());
+    let [a, b, c] = layout.name(layout.count()).letters;
     println!(rt; "{a} {b} {c}")?;
     Ok(())
 }

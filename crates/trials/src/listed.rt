@@ -36,10 +36,6 @@ impl<'a> Layout for Listed<'a> {
     }
 
     fn item(&self, i: usize) -> Option<Item> {
-        if i < self.items.len() {
-            Some(self.items[i])
-        } else {
-            None
-        }
+        self.items.get(i).copied()
     }
 }

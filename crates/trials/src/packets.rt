@@ -1,4 +1,5 @@
 //! The packet's bounds, and the walk over its headers.
+use base::refusal::Refusal;
 use frame::read::read;
 use frame::row::Row;
 use layout::table::Published;
@@ -26,9 +27,7 @@ pub(crate) fn packet(
     let low = (length % 256) as u8;
     octets.extend_from_slice(&[0x34, 0xff, high, low, 0, 0, 0, 7, 0, 0, 0, first])?;
     octets.extend_from_slice(chain)?;
-    for _ in 0..inner {
-        octets.push(0x45)?;
-    }
+    octets.resize(octets.len().saturating_add(inner), 0x45)?;
     Ok(octets)
 }
 
@@ -48,7 +47,7 @@ pub(crate) fn show(
             print!(rt; "{case}: {present} present, tail {tail}, inner {inner}")?;
         }
         Err(fault) => {
-            let refusal = fault.refusal();
+            let refusal = Refusal::from(fault);
             print!(rt; "{case}: {refusal}")?;
         }
     }
@@ -59,13 +58,7 @@ pub(crate) fn show(
 
 /// How many rows are not as they were.
 pub(crate) fn written(rows: &[Row]) -> usize {
-    let mut count = 0usize;
-    for row in rows {
-        if row.place != 7777 {
-            count = count.saturating_add(1);
-        }
-    }
-    count
+    rows.iter().filter(|row| row.place != 7777).count()
 }
 
 /// Prints the container that is found.
@@ -81,7 +74,7 @@ fn find(rt: &HostRuntime, case: &str, packet: &[u8]) -> anyhow::Result<()> {
             )?;
         }
         Err(fault) => {
-            let refusal = fault.refusal();
+            let refusal = Refusal::from(fault);
             println!(rt; "{case}: {refusal}")?;
         }
     }

@@ -2,6 +2,7 @@
 use crate::layouts::{made, number, octet};
 use crate::listed::Listed;
 use crate::packets::{UNTOUCHED, packet, written};
+use base::refusal::Refusal;
 use frame::read::read;
 use frame::row::Row;
 use layout::layout::Layout;
@@ -37,7 +38,7 @@ fn show_in<L: Layout>(
             show_octets(rt, reading.tail)?;
         }
         Err(fault) => {
-            let refusal = fault.refusal();
+            let refusal = Refusal::from(fault);
             print!(rt; "{case}: {refusal}")?;
         }
     }
