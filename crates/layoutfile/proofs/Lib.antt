@@ -1,3 +1,3 @@
-pub mod Sixteens
+pub mod Entries
 pub mod Passing
 pub mod Written

@@ -1,37 +1,34 @@
 -- Files are what is written: the law of Laws.antt.
-use Rattle.std.proofs.Common.{◌≡◌, ℕ, zero, suc, ◌+◌, ◌*◌, ◌^◌, ◌<◌, ◌≤◌, true, eqb, leb, List, [], ◌∷◌, ◌++◌, map, length, get_or, take, drop, is_some, Some, None, Option, sym, refl, ap, ◌∙◌, subst, ap₂, le_of_suc-le-suc, not-suc-le-zero, arith, lit<, length-append, length-drop, take-append-drop, length-take}
+use Rattle.std.proofs.Common.{◌≡◌, ℕ, zero, suc, ◌+◌, ◌*◌, ◌^◌, ◌<◌, ◌≤◌, true, List, [], ◌∷◌, ◌++◌, map, length, get_or, take, drop, Some, sym, refl, ap, ◌∙◌, subst, ap₂, le_of_suc-le-suc, not-suc-le-zero, arith, lit<, length-append, length-drop, take-append-drop, length-take}
 use Rattle.std.specs.List.{slice_get}
 use Rattle.std.proofs.lemmas.List.{take_at, drop_at, length-take-le, take_all, nil_from_length}
-use Rattle.std.proofs.lemmas.Bool.{eq-eqb, le-leb, eqb-true, leb-true, and_parts, and_from}
+use Rattle.std.proofs.lemmas.Bool.Decides.{nat_tests}
 use Rattle.base.specs.Answers.{Answer, gives}
 use Rattle.base.specs.Octets.{Octets, big_endian, octets_of}
 use Rattle.base.proofs.Numbers.{big_endian_small}
 use Rattle.base.proofs.Writing.{octets_at, octets_take, octets_drop, octets_append, big_endian-octets_of, octets_of-big_endian, octets_octets_of}
 use Rattle.layout.specs.declared.entry.RawEntry.{RawEntry}
 use Rattle.layout.specs.declared.maker.RawItem.{RawItem}
-use Rattle.layout.specs.Items.{ItemMeaning}
-use Rattle.layout.specs.Tables.{NamedItem}
-use Rattle.layout.specs.Entries.{entry_accepted}
 use Rattle.layout.proofs.Firsts.{each_yes, all_yes}
-use Rattle.layoutfile.specs.Files.{stated_type, stated_count, starts_well, well_sized, sixteens, entry_in, entries, is_item, first_no_item, file_questions, with_entry, items_of, items_if, type_if}
+use Rattle.layoutfile.specs.Files.{stated_type, stated_count, starts_well, well_sized, sixteens, entry_in, entries, is_item, first_no_item, file_questions, items_of, items_if, type_if}
 use Rattle.layoutfile.specs.Laws.{head, front, written, all_written, file_of, Writable, Listed, layout_of, ReadsBack, IsWritten, FilesAreWritten}
-use Rattle.layoutfile.proofs.Sixteens.{length-entries}
+use Rattle.layoutfile.proofs.Entries.{length-entries, kept_names}
 use Rattle.layoutfile.proofs.Passing.{passed, Passes, passes_from, long, half_octet}
 
 -- an entry is written in 16 octets, which give it back
-length-written : (e : RawEntry) → length e.name ≡ 3 → length (written e) ≡ 16
-length-written e n = omega (arith, length-append e.name (octets_of 8 e.item.limit))
+length-written : (e : RawEntry) → length e.name.letters ≡ 3 → length (written e) ≡ 16
+length-written e n = omega (arith, length-append e.name.letters (octets_of 8 e.item.limit))
 
 entry_back : (e : RawEntry) → Writable e → entry_in (written e) ≡ e
-entry_back e w = back e.item e.name w.named w.limit
+entry_back e w = back e.item e.name.letters w.named w.limit
   where
     back : (i : RawItem) (n : List ℕ) → length n ≡ 3 → i.limit < 2 ^ 64
-        → entry_in (written (record { item = i; name = n })) ≡ record { item = i; name = n }
+        → entry_in (written (record { item = i; name = record { letters = n } })) ≡ record { item = i; name = record { letters = n } }
     back i [] l h = absurd (omega arith)
     back i (a ∷ []) l h = absurd (omega arith)
     back i (a ∷ b ∷ []) l h = absurd (omega arith)
     back i (a ∷ b ∷ c ∷ []) l h =
-        ap (λ (v : ℕ). record { item = record { kind = i.kind; governor = i.governor; bit = i.bit; length = i.length; mask = i.mask; limit = v }; name = a ∷ b ∷ c ∷ [] })
+        ap (λ (v : ℕ). record { item = record { kind = i.kind; governor = i.governor; bit = i.bit; length = i.length; mask = i.mask; limit = v }; name = record { letters = a ∷ b ∷ c ∷ [] } })
         (big_endian-octets_of 8 i.limit h)
     back i (a ∷ b ∷ c ∷ d ∷ n) l h = absurd (omega arith)
 
@@ -62,39 +59,23 @@ octets_all [] w = tt
 octets_all (e ∷ es) w =
     octets_append (written e) (all_written es) (octets_written e (w 0 e refl)) (octets_all es (λ i x q. w (suc i) x q))
 
--- entries that are all items keep their names
-name_with : (n : List ℕ) (a : Option ItemMeaning) (is : List NamedItem) → is_some a ≡ true
-    → map (λ i. i.name) (with_entry n a is) ≡ n ∷ map (λ i. i.name) is
-name_with n None is e = absurd (let z : ◌≡◌ {A = ℕ} 0 1 = cc in let b : ⊥ = omega arith in b)
-name_with n (Some i) is e = refl
-
-names_of : (es : List RawEntry) → ((i : ℕ) (e : RawEntry) → Some e ≡ slice_get es i → is_item e ≡ true)
-    → map (λ i. i.name) (items_of es) ≡ map (λ e. e.name) es
-names_of [] h = refl
-names_of (e ∷ es) h =
-    name_with e.name (entry_accepted e) (items_of es) (h 0 e refl)
-    ∙ ap (λ (r : List (List ℕ)). e.name ∷ r) (names_of es (λ i x q. h (suc i) x q))
-
 -- what is written is read back
 module _ (t : ℕ) (es : List RawEntry) (h : t ≤ 15) (l : Listed es) where
   starts : starts_well (file_of t es) ≡ true
-  starts = and_from (leb 8 (length (file_of t es))) true (le-leb 8 (length (file_of t es)) (omega arith)) refl
+  starts = grind (arith, nat_tests)
 
   sized : well_sized (file_of t es) ≡ true
   sized =
       let n : length (file_of t es) ≡ 8 + 16 * length es = omega (arith, length_all es l.writable) in
-      and_from _ _ (eq-eqb (length (file_of t es)) (8 + 16 * length es) n)
-      (and_from _ _ (le-leb 1 (length es) l.some)
-      (and_from _ _ (le-leb (length es) 64 l.most)
-      (and_from _ _ (le-leb t 15 h) refl)))
+      let some : 1 ≤ length es = l.some in
+      let most : length es ≤ 64 = l.most in
+      grind (arith, nat_tests)
 
   same : entries (file_of t es) ≡ es
   same = all_back es l.writable
 
   accepted : file_questions (file_of t es) ≡ gives tt
-  accepted =
-      let q : length es ≡ first_no_item (entries (file_of t es)) = sym (ap first_no_item same ∙ all_yes is_item es l.items) in
-      sym (passed (file_of t es) (sym starts) (sym sized) (length es) q refl)
+  accepted = sym (passed (file_of t es) (sym starts) (sym sized) (ap first_no_item same ∙ all_yes is_item es l.items ∙ ap length (sym same)))
 
   reads_back : ReadsBack t es
   reads_back =
@@ -109,7 +90,7 @@ module _ (t : ℕ) (es : List RawEntry) (h : t ≤ 15) (l : Listed es) where
         names =
             ap (λ (a : Answer (Unit {0})). map (λ i. i.name) (items_if a (file_of t es))) accepted
             ∙ ap (λ (r : List RawEntry). map (λ i. i.name) (items_of r)) same
-            ∙ names_of es l.items;
+            ∙ kept_names es l.items;
       }
 
 -- the first n octets, one by one
@@ -154,7 +135,7 @@ all_in (suc n) c l o =
     ∙ take-append-drop 16 c
 
 each_in : (n : ℕ) (c : List ℕ) → Octets c → Each (map entry_in (sixteens n c))
-each_in zero c o i e q = absurd (let z : ◌≡◌ {A = ℕ} 0 1 = cc in let b : ⊥ = omega arith in b)
+each_in zero c o i e q = absurd (cc)
 each_in (suc n) c o zero e q =
     let s : entry_in (take 16 c) ≡ e = cc in subst Writable s (writable_in (take 16 c) (octets_take 16 c o))
 each_in (suc n) c o (suc i) e q = each_in n (drop 16 c) (octets_drop 16 c o) i e q
@@ -165,28 +146,17 @@ module _ (os : List ℕ) (o : Octets os) (q : file_questions os ≡ gives tt) wh
   p = passes_from os q
 
   count : (1 ≤ stated_count os) × (stated_count os ≤ 64) × (get_or os 7 0 ≡ 0)
-  count =
-      let a = and_parts _ _ p.sized in
-      let b = and_parts (leb 1 (stated_count os)) _ a.1 in
-      let c = and_parts (leb (stated_count os) 64) _ b.1 in
-      let d = and_parts (leb (stated_type os) 15) _ c.1 in
-      (leb-true 1 (stated_count os) b.0, leb-true (stated_count os) 64 c.0, eqb-true (get_or os 7 0) 0 d.1)
+  count = let h : well_sized os ≡ true = p.sized in grind (arith, nat_tests)
+
+  magic : (get_or os 0 0 ≡ 85) × (get_or os 1 0 ≡ 80) × (get_or os 2 0 ≡ 76) × (get_or os 3 0 ≡ 0) × (get_or os 4 0 ≡ 1)
+  magic = let h : starts_well os ≡ true = p.starts in grind (arith, nat_tests)
 
   head_is : head (stated_type os) (length (entries os)) ≡ take 8 os
   head_is =
-      let a = and_parts (leb 8 (length os)) _ p.starts in
-      let b = and_parts (eqb (get_or os 0 0) 85) _ a.1 in
-      let c = and_parts (eqb (get_or os 1 0) 80) _ b.1 in
-      let d = and_parts (eqb (get_or os 2 0) 76) _ c.1 in
-      let e = and_parts (eqb (get_or os 3 0) 0) _ d.1 in
-      let h0 : get_or os 0 0 ≡ 85 = eqb-true (get_or os 0 0) 85 b.0 in
-      let h1 : get_or os 1 0 ≡ 80 = eqb-true (get_or os 1 0) 80 c.0 in
-      let h2 : get_or os 2 0 ≡ 76 = eqb-true (get_or os 2 0) 76 d.0 in
-      let h3 : get_or os 3 0 ≡ 0 = eqb-true (get_or os 3 0) 0 e.0 in
-      let h4 : get_or os 4 0 ≡ 1 = eqb-true (get_or os 4 0) 1 e.1 in
-      let h6 : length (entries os) ≡ stated_count os = length-entries os in
-      let h7 : get_or os 7 0 ≡ 0 = count.2 in
-      let h = take_tab 8 os (leb-true 8 (length os) a.0) in
+      let m = magic in
+      let n : length (entries os) ≡ stated_count os = length-entries os in
+      let z : get_or os 7 0 ≡ 0 = count.2 in
+      let h = take_tab 8 os (omega (arith, long os p.sized)) in
       cc
 
   is_written : IsWritten os
@@ -201,7 +171,7 @@ module _ (os : List ℕ) (o : Octets os) (q : file_questions os ≡ gives tt) wh
               items = each_yes is_item (entries os) p.items;
             };
         whole =
-            sym (ap₂ ◌++◌ head_is (all_in (stated_count os) (drop 8 os) (omega (arith, length-drop 8 os, long os p)) (octets_drop 8 os o)) ∙ take-append-drop 8 os);
+            sym (ap₂ ◌++◌ head_is (all_in (stated_count os) (drop 8 os) (omega (arith, length-drop 8 os, long os p.sized)) (octets_drop 8 os o)) ∙ take-append-drop 8 os);
       }
 
 pub files_are_written : FilesAreWritten

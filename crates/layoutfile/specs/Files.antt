@@ -1,5 +1,7 @@
 -- Layout files: the entries that octets write down, questions 23 to 25, and what a file means.
-use Rattle.std.specs.Prelude.{ℕ, zero, suc, ◌+◌, ◌*◌, Bool, ◌&&◌, List, [], ◌∷◌, map, length, take, drop, is_some, Some, None, Option, ◌==◌, nat_le, slice_index}
+use Rattle.std.specs.Prelude.{◌≡◌, ℕ, true, ◌+◌, ◌*◌, Bool, ◌&&◌, List, [], ◌∷◌, map, length, take, drop, is_some, Some, None, Option, ◌==◌, nat_le, slice_index}
+use Rattle.std.specs.List.{slice_get}
+use Rattle.std.specs.Simd.{first_chunks}
 use Rattle.base.specs.declared.question.Question.TheVariants as Q
 use Rattle.base.specs.Answers.{Answer, refused, gives, ask, first_no, no_layout}
 use Rattle.base.specs.Octets.{big_endian}
@@ -29,8 +31,7 @@ well_sized os =
 
 -- octets by sixteens
 abbrev pub sixteens : ℕ → List ℕ → List (List ℕ)
-sixteens zero os = []
-sixteens (suc n) os = take 16 os ∷ sixteens n (drop 16 os)
+sixteens n os = first_chunks 16 n os
 
 -- the entry that 16 octets write down: kind, the governor's item and bit, length, mask, three name octets, the limit in eight
 abbrev pub entry_in : List ℕ → RawEntry
@@ -44,7 +45,7 @@ entry_in e =
         mask = slice_index e 4;
         limit = big_endian (take 8 (drop 8 e));
       };
-      name = slice_index e 5 ∷ slice_index e 6 ∷ slice_index e 7 ∷ [];
+      name = record { letters = slice_index e 5 ∷ slice_index e 6 ∷ slice_index e 7 ∷ [] };
     }
 
 -- the entries of a file, behind its first eight octets
@@ -54,6 +55,10 @@ entries os = map entry_in (sixteens (stated_count os) (drop 8 os))
 -- 25: is the entry an item, its name three capitals or digits?
 abbrev pub is_item : RawEntry → Bool
 is_item e = is_some (entry_accepted e)
+
+-- each of these entries is one
+abbrev pub EachIsItem : List RawEntry → Type 0
+EachIsItem es = (i : ℕ) (e : RawEntry) → Some e ≡ slice_get es i → is_item e ≡ true
 
 abbrev pub first_no_item : List RawEntry → ℕ
 first_no_item es = first_no (map is_item es)
@@ -73,7 +78,7 @@ with_entry n (Some i) is = record { name = n; item = i } ∷ is
 
 abbrev pub items_of : List RawEntry → List NamedItem
 items_of [] = []
-items_of (e ∷ es) = with_entry e.name (entry_accepted e) (items_of es)
+items_of (e ∷ es) = with_entry e.name.letters (entry_accepted e) (items_of es)
 
 -- the named items of a file; none where it fails 23 to 25
 abbrev pub items_if : Answer (Unit {0}) → List ℕ → List NamedItem

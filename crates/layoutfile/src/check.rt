@@ -1,11 +1,11 @@
 //! Questions 23 to 25, which are put to the octets of a layout file.
-ghost use Rattle.std.specs.Prelude.{◌≡◌, ◌+◌, ◌*◌, length};
+ghost use Rattle.std.specs.Prelude.{◌≡◌, ◌+◌, ◌*◌, length, not, position};
 ghost use Rattle.base.specs.Answers.{answer_of};
 ghost use Rattle.layoutfile.specs.Faults.{file_refusal};
-ghost use Rattle.layoutfile.specs.Files.{starts_well, well_sized, stated_count, entries, first_no_item, file_questions};
+ghost use Rattle.layoutfile.specs.Files.{starts_well, well_sized, entry_in, is_item, file_questions};
 ghost use Rattle.layoutfile.specs.Laws.{FilesAreWritten};
 
-use crate::decode::{ENTRY, HEAD, entry_at};
+use crate::decode::{ENTRY, HEAD, decode_entry, entries_of};
 use crate::fault::FileFault;
 use layout::lawful::MOST_ITEMS;
 
@@ -13,18 +13,13 @@ use layout::lawful::MOST_ITEMS;
 pub(crate) const TYPE_AT: usize = 5;
 
 /// Where the count stands.
-pub(crate) const COUNT_AT: usize = 6;
+const COUNT_AT: usize = 6;
 
 /// Whether there are 8 octets that start with `UPL` and version 1.
 fn starts_well(octets: &[u8]) -> bool
     ensures { result ≡ starts_well octets.now }
 {
-    octets.len() >= HEAD
-        && octets[0] == b'U'
-        && octets[1] == b'P'
-        && octets[2] == b'L'
-        && octets[3] == 0
-        && octets[4] == 1
+    octets.len() >= HEAD && octets.starts_with(b"UPL\x00\x01")
 }
 
 /// Whether the file is as long as its count asks, the count 1 to 64, the PDU type at most 15, the eighth octet 0.
@@ -34,29 +29,29 @@ fn is_well_sized(octets: &[u8]) -> bool
     if octets.len() < HEAD {
         return false;
     }
-    let count = octets[COUNT_AT] as usize;
+    let count = usize::from(octets[COUNT_AT]);
     octets.len() == HEAD + ENTRY * count
-        && 1 <= count
-        && count <= MOST_ITEMS
+        && (1..=MOST_ITEMS).contains(&count)
         && octets[TYPE_AT] <= 15
         && octets[7] == 0
 }
 
-/// The first entry that is no item, or whose name is none; the count where all are right.
-fn first_wrong_entry(octets: &[u8], count: usize) -> usize
-    requires stated { count ≡ stated_count octets.now }
-    requires long { length octets.now ≡ 8 + 16 * count }
-    ensures { result ≡ first_no_item (entries octets.now) }
+/// Whether 16 octets write down an item, its name three capitals or digits.
+fn is_item(entry: &[u8; ENTRY]) -> bool
+    ensures { result ≡ is_item (entry_in entry.now) }
 {
-    for i in 0..count {
-        if entry_at(octets, i).accept().is_none() {
-            return i;
-        }
-    }
-    count
+    decode_entry(entry).accept().is_some()
+}
+
+/// The first entry that is no item, or whose name is none, if there is one.
+fn first_wrong_entry(entries: &[[u8; ENTRY]]) -> Option<usize>
+    ensures { result ≡ position (λ entry. not (is_item (entry_in entry))) entries.now }
+{
+    entries.iter().position(|entry| !is_item(entry))
 }
 
 /// Puts questions 23 to 25 to the octets of a layout file.
+#[tactic(auto, using(crate::proofs::Passing::asking, crate::proofs::Written::files_are_written))]
 pub fn check_file(octets: &[u8]) -> Result<(), FileFault>
     ensures answer { answer_of (λ u. u) file_refusal result ≡ file_questions octets.now }
     ensures written { FilesAreWritten }
@@ -67,9 +62,7 @@ pub fn check_file(octets: &[u8]) -> Result<(), FileFault>
     if !is_well_sized(octets) {
         return Err(FileFault::Size);
     }
-    let count = octets[COUNT_AT] as usize;
-    let entry = first_wrong_entry(octets, count);
-    if entry != count {
+    if let Some(entry) = first_wrong_entry(entries_of(octets)) {
         return Err(FileFault::Entry { entry });
     }
     Ok(())

@@ -1,10 +1,11 @@
 //! Entries from octets.
-ghost use Rattle.std.specs.Prelude.{◌≡◌, ◌+◌, ◌*◌, ◌≤◌, length, take, drop};
-ghost use Rattle.layoutfile.specs.Files.{entry_in};
+ghost use Rattle.std.specs.Prelude.{◌≡◌, ◌+◌, ◌*◌, map, length};
+ghost use Rattle.layoutfile.specs.Files.{stated_count, entry_in, entries};
 
 use base::number::number;
 use layout::entry::RawEntry;
 use layout::maker::RawItem;
+use layout::name::Name;
 
 /// The octets before the entries.
 pub(crate) const HEAD: usize = 8;
@@ -13,28 +14,27 @@ pub(crate) const HEAD: usize = 8;
 pub(crate) const ENTRY: usize = 16;
 
 /// The entry that 16 octets write down: kind, the governor's item and bit, length, mask, name in three, limit in eight.
-fn decode_entry(octets: &[u8]) -> RawEntry
-    requires { length octets.now ≡ 16 }
+pub(crate) fn decode_entry(octets: &[u8; ENTRY]) -> RawEntry
     ensures { result ≡ entry_in octets.now }
 {
+    let [kind, governor, bit, length, mask, a, b, c, ..] = *octets;
     RawEntry {
         item: RawItem {
-            kind: octets[0],
-            governor: octets[1],
-            bit: octets[2],
-            length: octets[3],
-            mask: octets[4],
-            limit: number(&octets[8..16]),
+            kind,
+            governor,
+            bit,
+            length,
+            mask,
+            limit: number(&octets[8..]),
         },
-        name: [octets[5], octets[6], octets[7]],
+        name: Name { letters: [a, b, c] },
     }
 }
 
-/// Entry number `i` of a file.
-pub(crate) fn entry_at(octets: &[u8], i: usize) -> RawEntry
-    requires { 8 + 16 * i + 16 ≤ length octets.now }
-    ensures { result ≡ entry_in (take 16 (drop (8 + 16 * i) octets.now)) }
+/// The entries behind a file's head, sixteen octets each.
+pub(crate) fn entries_of(octets: &[u8]) -> &[[u8; ENTRY]]
+    requires { length octets.now ≡ 8 + 16 * stated_count octets.now }
+    ensures { map entry_in result.now ≡ entries octets.now }
 {
-    let at = HEAD + ENTRY * i;
-    decode_entry(&octets[at..at + ENTRY])
+    octets[HEAD..].as_chunks().0
 }

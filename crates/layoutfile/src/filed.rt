@@ -1,67 +1,58 @@
 //! The file kind behind the interface of layouts.
-ghost use Rattle.std.specs.Prelude.{◌≡◌, ◌≤◌, [], ◌∷◌, length};
+ghost use Rattle.std.specs.Prelude.{◌≡◌, ◌≤◌, [], ◌∷◌, map, length, IfOk};
 ghost use Rattle.std.specs.List.{slice_get};
-ghost use Rattle.std.specs.Option.{option_map};
-ghost use Rattle.base.specs.Answers.{gives};
-ghost use Rattle.layout.specs.Items.{name_at};
-ghost use Rattle.layout.specs.Views.{meant};
-ghost use Rattle.layoutfile.specs.Files.{file_questions, file_meaning, file_names};
+ghost use Rattle.base.specs.Answers.{answer_of};
+ghost use Rattle.layoutfile.specs.Faults.{file_refusal};
+ghost use Rattle.layoutfile.specs.Files.{entry_in, file_questions, file_meaning, file_names};
 
-use crate::check::{COUNT_AT, TYPE_AT, check_file};
-use crate::decode::entry_at;
+use crate::check::{TYPE_AT, check_file};
+use crate::decode::{decode_entry, entries_of};
+use crate::fault::FileFault;
 use crate::file::FileLayout;
 use crate::origin::FILE;
+use layout::entry::RawEntry;
 use layout::item::Item;
 use layout::layout::Layout;
+use layout::name::Name;
 use layout::named::NamedLayout;
 
-impl<'a> FileLayout<'a> {
-    /// The layout of octets that passed questions 23 to 25.
-    fn of_file(octets: &'a [u8]) -> FileLayout<'a>
-        requires { file_questions octets.now ≡ gives tt }
-        ensures { result.octets.now ≡ octets.now }
-    {
-        FileLayout {
+/// The layout of octets that pass questions 23 to 25.
+impl<'a> TryFrom<&'a [u8]> for FileLayout<'a> {
+    type Error = FileFault;
+
+    ghost try_from_gives = { λ octets result. (answer_of (λ _. tt) file_refusal result ≡ file_questions octets.now) × IfOk result (λ layout. layout.octets.now ≡ octets.now) };
+
+    #[tactic(auto, using(crate::proofs::Passing::passing))]
+    fn try_from(octets: &'a [u8]) -> Result<FileLayout<'a>, FileFault> {
+        check_file(octets)?;
+        Ok(FileLayout {
             octets,
             pdu_type: octets[TYPE_AT],
-            count: octets[COUNT_AT] as usize,
-        }
+            entries: entries_of(octets),
+        })
     }
+}
 
-    /// The item of entry number `i`, and none past the end.
-    fn entry_item(&self, i: usize) -> Option<Item>
-        ensures { option_map meant result ≡ slice_get (file_meaning self.now.octets.now).items i }
-    {
-        if i >= self.count {
-            return None;
-        }
-        entry_at(self.octets, i).accept()
-    }
-
-    /// The name in entry number `i`, and zeros past the end.
-    fn entry_name(&self, i: usize) -> [u8; 3]
-        ensures value { result ≡ name_at (file_names self.now.octets.now) i }
-        ensures past { length (file_meaning self.now.octets.now).items ≤ i → result ≡ 0 ∷ 0 ∷ 0 ∷ [] }
-        ensures each { length (file_names self.now.octets.now) ≡ length (file_meaning self.now.octets.now).items }
-    {
-        if i >= self.count {
-            return [0; 3];
-        }
-        entry_at(self.octets, i).name
-    }
-
+impl<'a> FileLayout<'a> {
     /// The layout of any octets: of type 0 and without items where they fail questions 23 to 25.
     pub fn new(octets: &'a [u8]) -> FileLayout<'a>
         ensures { result.octets.now ≡ octets.now }
     {
-        match check_file(octets) {
-            Ok(()) => FileLayout::of_file(octets),
+        match FileLayout::try_from(octets) {
+            Ok(layout) => layout,
             Err(_) => FileLayout {
                 octets,
                 pdu_type: 0,
-                count: 0,
+                entries: &[],
             },
         }
+    }
+
+    /// Entry number `i`, and none past the end.
+    fn entry(&self, i: usize) -> Option<RawEntry>
+        ensures { result ≡ slice_get (map entry_in self.now.entries.now) i }
+    {
+        self.entries.get(i).map(decode_entry)
     }
 }
 
@@ -80,19 +71,22 @@ impl<'a> Layout for FileLayout<'a> {
         self.pdu_type
     }
 
+    #[tactic(auto, using(crate::proofs::Passing::counted))]
     fn count(&self) -> usize {
-        self.count
+        self.entries.len()
     }
 
+    #[tactic(auto, using(crate::proofs::Passing::item_here, crate::proofs::Passing::item_past))]
     fn item(&self, i: usize) -> Option<Item> {
-        self.entry_item(i)
+        self.entry(i)?.accept()
     }
 }
 
 impl<'a> NamedLayout for FileLayout<'a> {
     ghost names = { λ f. file_names f.octets.now };
 
-    fn name(&self, i: usize) -> [u8; 3] {
-        self.entry_name(i)
+    #[tactic(auto, using(crate::proofs::Passing::naming))]
+    fn name(&self, i: usize) -> Name {
+        self.entry(i).map_or(Name::NONE, |entry| entry.name)
     }
 }
