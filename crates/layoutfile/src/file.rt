@@ -8,8 +8,10 @@ use crate::decode::ENTRY;
 /// Octets that fail questions 23 to 25 are a layout of type 0 without items.
 #[derive(Clone, Copy)]
 pub struct FileLayout<'a> {
+    /// The whole file, by which contracts say what the layout means.
     pub(crate) octets: &'a [u8],
     pub(crate) pdu_type: u8,
+    /// Its entries; none where it fails.
     pub(crate) entries: &'a [[u8; ENTRY]],
     ghost typed: { pdu_type ≡ file_type octets.now },
     ghost half: { pdu_type ≤ 15 },

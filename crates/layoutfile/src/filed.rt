@@ -16,7 +16,7 @@ use layout::layout::Layout;
 use layout::name::Name;
 use layout::named::NamedLayout;
 
-/// The layout of octets that pass questions 23 to 25.
+/// The layout of octets that pass questions 23 to 25, or the first no to one of these.
 impl<'a> TryFrom<&'a [u8]> for FileLayout<'a> {
     type Error = FileFault;
 

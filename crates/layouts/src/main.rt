@@ -46,7 +46,11 @@ fn run(rt: &HostRuntime) -> anyhow::Result<Outcome> {
         return answer_lines(rt);
     };
     let second = words.next();
-    answer(rt, first.as_str(), second.as_ref().map(|word| word.as_str()))
+    answer(
+        rt,
+        first.as_str(),
+        second.as_ref().map(|word| word.as_str()),
+    )
 }
 
 fn main(rt: HostRuntime) -> anyhow::Result<()> {

@@ -8,6 +8,7 @@ use layout::layout::Layout;
 use layout::named::NamedLayout;
 
 /// Asks for a layout's PDU type and items, and the frame that it describes if it is lawful.
+#[derive(Clone, Copy)]
 pub(crate) struct Show;
 
 impl Request for Show {

@@ -7,11 +7,13 @@ use pile::extends::extends;
 use pile::fault::ExtendsFault;
 
 /// Asks whether a second layout extends the one asked.
+#[derive(Clone, Copy)]
 pub(crate) struct Below<'a> {
     pub second: &'a str,
 }
 
 /// Asks whether the layout asked extends a lower one.
+#[derive(Drop)]
 pub(crate) struct Above<'a, L: Layout> {
     pub first: &'a str,
     pub lower: &'a L,
