@@ -1,24 +1,16 @@
 -- The rules on one item, by the numbers that the code has in place of octets.
-use Rattle.std.proofs.Common.{◌≡◌, ℕ, zero, suc, ◌+◌, ◌%◌, ◌^◌, ◌≤◌, Bool, false, eqb, ltb, List, [], ◌∷◌, ◌++◌, map, length, get_or, Some, None, Option, sym, refl, ap, ◌∙◌, add-zero, arith, length-append}
-use native.Mathlib.Nat.{zero-div}
+use Rattle.std.proofs.Common.{◌≡◌, ℕ, zero, suc, ◌+◌, Bool, eqb, ltb, List, [], ◌∷◌, ◌++◌, map, length, get_or, Some, None, Option, sym, refl, ap, ◌∙◌, add-zero, arith, length-append}
 use mir.Val.{bool_byte}
-use Rattle.std.proofs.lemmas.List.{get_or_past}
 use Rattle.std.proofs.lemmas.Bool.{lt-ltb}
 use Rattle.base.specs.Octets.{bit, big_endian}
 use Rattle.layout.specs.declared.kind.Governor.{Governor}
-use Rattle.layout.specs.Items.{ItemKind, bits_octet, a_number, governed_by, ItemMeaning}
+use Rattle.layout.specs.Items.{ItemKind, bits_octet, a_number, ItemMeaning}
 use Rattle.layout.specs.Views.{governor_meaning}
 use Rattle.frame.specs.declared.row.Row.{Row}
 use Rattle.frame.specs.Pieces.{joined, piece, present_by, within_as}
 use Rattle.frame.specs.Rows.{row_of, rows_of, how_many}
 use Rattle.frame.specs.Surveys.{last_octet, present_by_octets, within_number, row_number}
 use Rattle.frame.proofs.Octets.{bit-last_octet}
-
--- an octet past the end counts as 0
-pub absent_past : (os : List ℕ) (g b : ℕ) → length os ≤ g → false ≡ present_by_octets (governed_by g b) os
-absent_past os g b h =
-    let z : bit b 0 ≡ 0 = ap (λ (n : ℕ). n % 2) (zero-div (2 ^ b)) in
-    sym (ap (λ (v : ℕ). eqb (bit b v) 1) (get_or_past os g 0 h) ∙ ap (λ (v : ℕ). eqb v 1) z)
 
 get_or-last : (cs : List (List ℕ)) (g : ℕ) → get_or (map last_octet cs) g 0 ≡ last_octet (piece cs g)
 get_or-last [] g = refl

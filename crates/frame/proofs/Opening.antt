@@ -1,5 +1,5 @@
 -- The questions of a read one after another, by what the code finds.
-use Rattle.std.proofs.Common.{◌≡◌, ℕ, ◌+◌, ◌/◌, ◌<◌, ◌≤◌, List, [], map, length, get_or, sym, refl, ap, ◌∙◌, subst}
+use Rattle.std.proofs.Common.{◌≡◌, ℕ, ◌+◌, ◌/◌, ◌<◌, ◌≤◌, List, [], length, get_or, sym, refl, ap, ◌∙◌, subst}
 use Rattle.std.proofs.lemmas.Bool.{eq-eqb, eqb-true, ne_eqb, le-leb, lt-leb}
 use Rattle.base.specs.declared.refusal.Refusal.{Refusal}
 use Rattle.base.specs.declared.question.Question.TheVariants as Q
@@ -8,12 +8,13 @@ use Rattle.base.proofs.Asking.{never, gives_inj, ask_yes, ask_no, asked_yes, bin
 use Rattle.layout.specs.Items.{Meaning}
 use Rattle.layout.specs.Questions.{lawful}
 use Rattle.packet.specs.Containers.{Located, container}
+use Rattle.frame.specs.declared.open.Open.{Open}
 use Rattle.frame.specs.declared.row.Row.{Row}
 use Rattle.frame.specs.Pieces.{Cut, cut_from, cut_frame}
 use Rattle.frame.specs.Rows.{filled}
-use Rattle.frame.specs.Surveys.{last_octet, Gathered, gathered, surveyed}
+use Rattle.frame.specs.Surveys.{Gathered, gathered, surveyed, Surveyed}
 use Rattle.frame.specs.Reading.{Opened, opened_packet, opened_for_read, read_told, table_after}
-use Rattle.frame.specs.Views.{FoundSurveyed, gathered_packet}
+use Rattle.frame.specs.Views.{FrameSurveyed, opened_of, surveyed_of, gathered_packet, IsOpen}
 
 module _ (m : Meaning) (p : ℕ) (o : List ℕ) (v t : ℕ) (e : v ≡ get_or o 0 0) (f : t ≡ m.pdu_type) where
   pub other_type : (v / 16 ≡ t → ⊥) → refused (no_to Q.PduType p) ≡ surveyed (cut_frame m p o)
@@ -46,11 +47,11 @@ module _ (m : Meaning) (b : List ℕ) (n : ℕ) where
     open_no_frame r f = bind_refused _ _ r (bind_gives _ _ w (sym e) ∙ bind_refused _ _ r (mapped_refused gathered _ r f))
 
     pub open_yes : (g : Gathered) → gives g ≡ surveyed (cut_frame m (w.place + 1) w.frame)
-        → gives (record { located = w; found = g }) ≡ gathered_packet (opened_packet m b n)
+        → gives (record { place = w.place + 1; frame = w.frame; found = g; inner = w.inner }) ≡ gathered_packet (opened_packet m b n)
     unfolding gathered_packet opened_packet surveyed
     open_yes g f =
         let c = mapped_gives gathered _ g f in
-        ap (λ (x : Gathered). gives (record { located = w; found = x })) c.2
+        ap (λ (x : Gathered). gives (record { place = w.place + 1; frame = w.frame; found = x; inner = w.inner })) c.2
         ∙ sym (bind_gives _ _ (record { located = w; parts = c.0 }) (bind_gives _ _ w (sym e) ∙ bind_gives _ _ c.0 c.1))
 
   -- what was opened is the container and the cut of its frame
@@ -83,50 +84,33 @@ module _ (o : ℕ) (m : Meaning) (k : ℕ) (b : List ℕ) (n : ℕ) where
   unfolding opened_for_read
   read_no_layout r e = bind_refused _ _ r (sym e)
 
-  module _ (e : gives tt ≡ lawful o m) where
+  module _ (e : lawful o m ≡ gives tt) where
     pub read_no_rows : k < length m.items → opened_for_read o m k b n ≡ refused (no_to Q.TableRows k)
     unfolding opened_for_read
-    read_no_rows h = bind_gives _ _ tt (sym e) ∙ ask_no _ _ _ (lt-leb (length m.items) k h)
+    read_no_rows h = bind_gives _ _ tt e ∙ ask_no _ _ _ (lt-leb (length m.items) k h)
 
     module _ (h : length m.items ≤ k) where
       read_on : opened_for_read o m k b n ≡ opened_packet m b n
       unfolding opened_for_read
-      read_on = bind_gives _ _ tt (sym e) ∙ ask_yes _ _ _ (le-leb (length m.items) k h)
+      read_on = bind_gives _ _ tt e ∙ ask_yes _ _ _ (le-leb (length m.items) k h)
 
       pub read_no_packet : (r : Refusal) → refused r ≡ gathered_packet (opened_packet m b n) → opened_for_read o m k b n ≡ refused r
       unfolding gathered_packet
-      read_no_packet r f = read_on ∙ mapped_refused (λ (w : Opened). record { located = w.located; found = gathered w.parts }) _ r f
+      read_no_packet r f = read_on ∙ mapped_refused surveyed_of _ r f
 
-      pub read_opened : (g : FoundSurveyed) → gives g ≡ gathered_packet (opened_packet m b n)
-          → (w : Opened) × (opened_for_read o m k b n ≡ gives w) × (g ≡ record { located = w.located; found = gathered w.parts })
-          × (container b n ≡ gives w.located)
-          × (cut_from m.items [] (w.located.place + 1) w.located.frame ≡ gives w.parts)
+      pub read_accepted : (p : Open) → gives (opened_of p) ≡ gathered_packet (opened_packet m b n) → IsOpen m k p (opened_for_read o m k b n)
       unfolding gathered_packet
-      read_opened g f =
-          let c = mapped_gives (λ (w : Opened). record { located = w.located; found = gathered w.parts }) _ g f in
-          let p = opened_parts m b n c.0 c.1 in
-          (c.0, read_on ∙ c.1, c.2, p.0, p.1)
-
--- what an accepted opening has found
-pub record Accepted (o : ℕ) (m : Meaning) (k : ℕ) (b : List ℕ) (n : ℕ) (g : FoundSurveyed) : Type 0 where
-  pub parts : Cut
-  pub found : container b n ≡ gives g.located
-  pub cut : cut_from m.items [] (g.located.place + 1) g.located.frame ≡ gives parts
-  pub octets : g.found.octets ≡ map last_octet parts.pieces
-  pub told : gives (record { present = g.found.present; tail = g.found.tail; inner = g.located.inner }) ≡ read_told (opened_for_read o m k b n)
-  pub table : (t : List Row) → filled m.items (g.located.place + 1) (cut_from m.items [] (g.located.place + 1) g.located.frame) t
-      ≡ table_after m (opened_for_read o m k b n) t
-
-pub read_accepted : (o : ℕ) (m : Meaning) (k : ℕ) (b : List ℕ) (n : ℕ) → gives tt ≡ lawful o m → length m.items ≤ k
-    → (g : FoundSurveyed) → gives g ≡ gathered_packet (opened_packet m b n) → Accepted o m k b n g
-read_accepted o m k b n e h g f =
-    let r = read_opened o m k b n e h g f in
-    let w = r.0 in
-    subst (Accepted o m k b n) (sym r.2) (record {
-      parts = w.parts;
-      found = r.3;
-      cut = r.4;
-      octets = refl;
-      told = sym (ap read_told r.1);
-      table = λ t. ap (λ (a : Answer Cut). filled m.items (w.located.place + 1) a t) r.4 ∙ sym (ap (λ (a : Answer Opened). table_after m a t) r.1);
-    })
+      read_accepted p f =
+          let c = mapped_gives surveyed_of _ _ f in
+          let w = c.0 in
+          let e : opened_for_read o m k b n ≡ gives w = read_on ∙ c.1 in
+          let cut : cut_from m.items [] (w.located.place + 1) w.located.frame ≡ gives w.parts = (opened_parts m b n w c.1).1 in
+          let same : (t : List Row) → filled m.items (w.located.place + 1) (cut_from m.items [] (w.located.place + 1) w.located.frame) t ≡ table_after m (opened_for_read o m k b n) t =
+          λ t. ap (λ (a : Answer Cut). filled m.items (w.located.place + 1) a t) cut ∙ sym (ap (λ (a : Answer Opened). table_after m a t) e) in
+          let q : surveyed_of w ≡ opened_of p = sym c.2 in
+          record {
+            surveyed = subst (λ (g : FrameSurveyed). Surveyed m.items g.place g.frame g.found.octets) q (record { parts = w.parts; accepted = cut; octets = refl });
+            fits = h;
+            told = ap (λ (g : FrameSurveyed). gives (record { present = g.found.present; tail = g.found.tail; inner = g.inner })) (sym q) ∙ sym (ap read_told e);
+            table = subst (λ (g : FrameSurveyed). (t : List Row) → filled m.items g.place (cut_from m.items [] g.place g.frame) t ≡ table_after m (opened_for_read o m k b n) t) q same;
+          }

@@ -1,5 +1,5 @@
 -- What a first pass over the items of a frame gathers, and the rules on items by the numbers that the code holds.
-use Rattle.std.specs.Prelude.{◌≡◌, ℕ, zero, suc, ◌%◌, Bool, true, cond, List, [], map, length, take, ◌==◌, nat_le, slice_index}
+use Rattle.std.specs.Prelude.{◌≡◌, ℕ, zero, suc, ◌%◌, Bool, true, cond, List, [], map, ◌==◌, nat_le, slice_index}
 use Rattle.base.specs.Answers.{Answer, gives, bind}
 use Rattle.base.specs.Octets.{bit, big_endian}
 use Rattle.layout.specs.Items.{ItemKind, bits_octet, a_number, ItemGovernor, ungoverned, governed_by, ItemMeaning}
@@ -29,7 +29,7 @@ abbrev pub row_number : ItemMeaning → ℕ → ℕ → ℕ → Row
 row_number i p zero v = absent
 row_number i p (suc n) v = record { present = true; place = p; value = shown_as i.kind i.mask v }
 
--- the last octets by item number, how many items are present, and the tail
+-- the last octet of each item, how many items are present, and the tail
 pub record Gathered : Type 0 where
   pub octets : List ℕ
   pub present : ℕ
@@ -38,8 +38,8 @@ pub record Gathered : Type 0 where
 abbrev pub gathered : Cut → Gathered
 gathered w = record { octets = map last_octet w.pieces; present = how_many w.pieces; tail = w.tail }
 
-abbrev pub gathered_of : ℕ → Survey → Gathered
-gathered_of n s = record { octets = take n s.octets; present = s.present; tail = s.tail.now }
+abbrev pub gathered_of : Survey → Gathered
+gathered_of s = record { octets = s.octets.items; present = s.present; tail = s.tail.now }
 
 unfoldable pub surveyed : Answer Cut → Answer Gathered
 surveyed a = bind a (λ w. gives (gathered w))
@@ -48,4 +48,4 @@ surveyed a = bind a (λ w. gives (gathered w))
 pub record Surveyed (is : List ItemMeaning) (p : ℕ) (o os : List ℕ) : Type 0 where
   pub parts : Cut
   pub accepted : cut_from is [] p o ≡ gives parts
-  pub octets : take (length is) os ≡ map last_octet parts.pieces
+  pub octets : os ≡ map last_octet parts.pieces

@@ -46,6 +46,14 @@ impl From<PacketFault> for FrameFault {
     }
 }
 
+impl From<LayoutFault> for ReadFault {
+    ghost from_gives = { λ f r. r ≡ of-frame (of-layout f) };
+
+    fn from(fault: LayoutFault) -> ReadFault {
+        ReadFault::Frame(fault.into())
+    }
+}
+
 impl From<FrameFault> for ReadFault {
     ghost from_gives = { λ f r. r ≡ of-frame f };
 

@@ -7,27 +7,23 @@ use crate::row::Row;
 use layout::item::Item;
 use layout::kind::{Governor, Kind};
 
-/// Whether an item with this governor is present; `earlier` has the last octet of each item before it, 0 for an absent one.
-fn is_present(governor: Option<Governor>, earlier: &[u8]) -> bool
-    ensures { result ≡ present_by_octets (governor_meaning governor) earlier.now }
+/// Whether an item with this governor is present; `octets` has the last octet of each item before it, 0 for an absent one.
+fn is_present(governor: Option<Governor>, octets: &[u8]) -> bool
+    ensures { result ≡ present_by_octets (governor_meaning governor) octets.now }
 {
-    let Some(g) = governor else {
-        return true;
-    };
-    let at = g.item as usize;
-    if at >= earlier.len() {
-        return false;
-    }
-    (earlier[at] >> g.bit) % 2 == 1
+    governor.is_none_or(|g| {
+        let octet = octets.get(usize::from(g.item));
+        octet.is_some_and(|o| (o >> g.bit) % 2 == 1)
+    })
 }
 
 /// How many octets an item takes: none if it is absent.
-pub(crate) fn size_in(item: &Item, earlier: &[u8]) -> usize
-    ensures is { result ≡ size_by_octets (meant item.now) earlier.now }
+pub(crate) fn size_in(item: &Item, octets: &[u8]) -> usize
+    ensures is { result ≡ size_by_octets (meant item.now) octets.now }
     ensures few { result ≤ 8 }
 {
-    if is_present(item.governor, earlier) {
-        item.length as usize
+    if is_present(item.governor, octets) {
+        usize::from(item.length)
     } else {
         0
     }
@@ -37,10 +33,7 @@ pub(crate) fn size_in(item: &Item, earlier: &[u8]) -> usize
 pub(crate) fn is_within(item: &Item, value: u64) -> bool
     ensures { result ≡ within_number (kind_meaning item.now.kind) item.now.limit value }
 {
-    match item.kind {
-        Kind::Bits => true,
-        Kind::Number => value <= item.limit,
-    }
+    item.kind == Kind::Bits || value <= item.limit
 }
 
 /// The row of an item that takes `size` octets at `place`, which write `value`.
@@ -48,11 +41,7 @@ pub(crate) fn make_row(item: &Item, place: usize, size: usize, value: u64) -> Ro
     ensures { result ≡ row_number (meant item.now) place size value }
 {
     if size == 0 {
-        return Row {
-            present: false,
-            place: 0,
-            value: 0,
-        };
+        return Row::default();
     }
     let value = match item.kind {
         Kind::Bits => value & u64::from(item.mask),

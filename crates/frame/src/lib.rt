@@ -3,6 +3,7 @@
 
 pub mod fault;
 mod fill;
+mod frame;
 mod item;
 mod open;
 pub mod read;

@@ -11,6 +11,7 @@ use crate::fault::ReadFault;
 use crate::fill::fill_rows;
 use crate::open::{Open, open_for_read};
 use crate::row::Row;
+use layout::lawful::lawful;
 use layout::layout::Layout;
 
 /// What read hands out besides the rows: how many items are present, and the tail and the inner packet as parts of the packet.
@@ -35,11 +36,16 @@ pub fn read<'a, L: Layout>(
     ensures rows_show { RowsShowItems }
     ensures worked { WorkedFrames }
 {
-    let Open { found, survey } = open_for_read(layout, rows.len(), buffer, count)?;
-    fill_rows(layout, found.frame, found.place + 1, &survey.octets, rows);
+    let lawful = lawful(layout)?;
+    let Open {
+        frame,
+        survey,
+        inner,
+    } = open_for_read(&lawful, rows.len(), buffer, count)?;
+    fill_rows(&lawful, frame, &survey.octets, rows);
     Ok(Reading {
         present: survey.present,
         tail: survey.tail,
-        inner: found.inner,
+        inner,
     })
 }

@@ -1,7 +1,8 @@
 //! A row of the table that read fills.
 
-/// What read shows of one item: whether it is present, its place in the packet, its value. An absent item has place and value 0.
-#[derive(Clone, Copy, PartialEq, Eq, Debug)]
+/// What read shows of one item: whether it is present, its place in the packet, its value. An absent item has the default row,
+/// place and value 0.
+#[derive(Clone, Copy, PartialEq, Eq, Debug, Default)]
 pub struct Row {
     pub present: bool,
     pub place: usize,

@@ -1,39 +1,34 @@
-use Rattle.std.proofs.Common.{arith, rules}
-use Rattle.layout.proofs.Nths.{le_from_nth}
-use Rattle.frame.proofs.Filling.{filling_none, fits, filling_more, filled_all}
+use Rattle.std.proofs.Common.{ℕ, ◌+◌, inl, sym, ap, ◌∙◌, arith}
+use Rattle.frame.proofs.Presence.{earlier}
+use Rattle.frame.proofs.Filling.{fits, filling_more, filled_all}
 use Rattle.frame.proofs.fill.fill_rows.Goals as goal
 
-pub loop-i-init : goal.loop-i-init
-loop-i-init g c = filling_none _ _ _ _
-
-pub unreachable-requires : goal.unreachable-requires
-unreachable-requires g c =
-    let h = le_from_nth (g.L.Layout.meaning c.args.layout.now).items c.loop-i.i c.in_default.ensures in
-    omega arith
-
-pub slice_bounds-number-end : goal.slice_bounds-number-end
-slice_bounds-number-end g c =
-    let h = fits _ _ _ _ _ c.requires.surveyed _ _ _ _ c.loop-i.invariant c.in-Some.item _ c.in-Some.ensures c.size_in-size.ensures.is in
-    search rules
-
-pub overflow_add-at : goal.overflow_add-at
-overflow_add-at g c =
-    let h = fits _ _ _ _ _ c.requires.surveyed _ _ _ _ c.loop-i.invariant c.in-Some.item _ c.in-Some.ensures c.size_in-size.ensures.is in
-    search rules
-
-pub slice_bounds-rest-count : goal.slice_bounds-rest-count
-slice_bounds-rest-count g c =
-    fits _ _ _ _ _ c.requires.surveyed _ _ _ _ c.loop-i.invariant c.in-Some.item _ c.in-Some.ensures c.size_in-size.ensures.is
-
-pub slice_bounds-rest-start : goal.slice_bounds-rest-start
-slice_bounds-rest-start g c =
-    let h = fits _ _ _ _ _ c.requires.surveyed _ _ _ _ c.loop-i.invariant c.in-Some.item _ c.in-Some.ensures c.size_in-size.ensures.is in
-    search rules
+pub split_at-requires : goal.split_at-requires
+split_at-requires g c =
+    let given = rw c.loop-i.invariant.same at c.in-Some.ensures.steps.0.1 in
+    fits _ _ _ _ _ (earlier g.L.Layout.source (g.L.Layout.meaning c.args.lawful.now.layout.now) c.args.lawful.now.passed) c.requires.surveyed _ _ _ _ c.loop-i.invariant.filling c.in-Some.item _ given.item c.size_in-size.ensures.is
 
 pub loop-i-preserved : goal.loop-i-preserved
 loop-i-preserved g c =
-    filling_more _ _ _ _ _ c.requires.surveyed _ _ _ _ c.loop-i.invariant c.in-Some.item _ c.in-Some.ensures c.size_in-size.ensures.is
-    _ c.number-value.ensures.exact c.size_in-size.ensures.few (omega arith) _ c.make_row.ensures
+    let steps = c.in-Some.ensures.steps in
+    let given = rw c.loop-i.invariant.same at steps.0.1 in
+    let count = steps.0.0.1 ∙ c.loop-i.invariant.count in
+    let index = steps.2 ∙ ap (λ (i : ℕ). i + 1) c.loop-i.invariant.index ∙ sym given.next in
+    let here = steps.1 ∙ c.loop-i.invariant.index in
+    record {
+      can = (tt, tt, inl (omega (arith, count, index)));
+      ends = tt;
+      same = ap (λ r. r.now) steps.0.0.0 ∙ c.loop-i.invariant.same;
+      count = count;
+      index = index;
+      filling =
+          filling_more _ _ _ _ _ (earlier g.L.Layout.source (g.L.Layout.meaning c.args.lawful.now.layout.now) c.args.lawful.now.passed)
+          c.requires.surveyed _ _ _ _ c.loop-i.invariant.filling c.in-Some.item _ given.item c.size_in-size.ensures.is
+          _ _ c.split_at.ensures.front c.split_at.ensures.back _ c.number.ensures.exact c.size_in-size.ensures.few
+          _ _ given.next here (omega (arith, here, given.within, c.loop-i.invariant.filling.wide, c.requires.fits)) _ c.make_row.ensures;
+    }
 
 pub returns : goal.returns
-returns g c = filled_all _ _ _ _ _ c.requires.surveyed _ _ _ _ c.loop-i.invariant (omega arith)
+returns g c =
+    let left = rw c.loop-i.invariant.same at c.in-None.ensures.steps.0.1 in
+    filled_all _ _ _ _ _ c.requires.surveyed _ _ _ _ c.loop-i.invariant.filling left.past

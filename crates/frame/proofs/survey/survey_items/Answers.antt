@@ -1,29 +1,38 @@
-use Rattle.std.proofs.Common.{refl, arith}
-use Rattle.layout.proofs.Nths.{le_from_nth}
-use Rattle.frame.proofs.Along.{along_none, along_short, along_over, along_more, along_all}
+use Rattle.std.proofs.Common.{ap, ◌∙◌, arith}
+use Rattle.layout.specs.Views.{meant}
+use Rattle.frame.specs.Surveys.{size_by_octets}
+use Rattle.frame.proofs.Along.{along_short, along_over, along_more, along_all}
 use Rattle.frame.proofs.survey.survey_items.Goals as goal
 
-pub loop-i-init : goal.loop-i-init
-loop-i-init g c = along_none _ _ _ _ refl
-
-pub unreachable-requires : goal.unreachable-requires
-unreachable-requires g c =
-    let h = le_from_nth (g.L.Layout.meaning c.args.layout.now).items c.loop-i.i c.in_default.ensures in
-    omega arith
-
-pub returns-then-size-rest : goal.returns-then-size-rest
-returns-then-size-rest g c =
-    along_short _ _ _ _ _ _ _ _ c.in-Some.item _ c.loop-i.invariant c.in-Some.ensures c.size_in-size.ensures.is c.if-size-rest.true
+pub returns-in_default : goal.returns-in_default
+returns-in_default g c =
+    let given = rw c.loop-item.invariant.same at c.in-Some.ensures.steps.1 in
+    along_short _ _ _ _ _ _ _ _ c.in-Some.item _ c.loop-item.invariant.along given.item
+    (c.size_in-size.ensures.is ∙ ap (size_by_octets (meant c.in-Some.item)) c.deref.ensures.0) c.in_default.ensures.cases
 
 pub returns-then-not-is_within : goal.returns-then-not-is_within
 returns-then-not-is_within g c =
-    along_over _ _ _ _ _ _ _ _ c.in-Some.item _ c.loop-i.invariant c.in-Some.ensures c.size_in-size.ensures.is
-    c.if-size-rest.false _ c.number-value.ensures.exact c.size_in-size.ensures.few c.if-not-is_within.ensures
+    let given = rw c.loop-item.invariant.same at c.in-Some.ensures.steps.1 in
+    along_over _ _ _ _ _ _ _ _ c.in-Some.item _ c.loop-item.invariant.along given.item
+    (c.size_in-size.ensures.is ∙ ap (size_by_octets (meant c.in-Some.item)) c.deref.ensures.0)
+    _ _ c.in-Some-split_at_checked.ensures.cases _ c.number-value.ensures.exact c.size_in-size.ensures.few c.if-not-is_within.ensures
 
-pub loop-i-preserved : goal.loop-i-preserved
-loop-i-preserved g c =
-    along_more _ _ _ _ _ _ _ _ c.in-Some.item _ c.loop-i.invariant c.in-Some.ensures c.size_in-size.ensures.is
-    c.if-size-rest.false _ c.number-value.ensures.exact c.size_in-size.ensures.few c.if-not-is_within.ensures (omega arith)
+pub loop-item-preserved : goal.loop-item-preserved
+loop-item-preserved g c =
+    let given = rw c.loop-item.invariant.same at c.in-Some.ensures.steps.1 in
+    record {
+      can = tt;
+      ends = tt;
+      same = ap (λ r. r.now) c.in-Some.ensures.steps.0.0 ∙ c.loop-item.invariant.same;
+      few = omega arith;
+      along =
+          along_more _ _ _ _ _ _ _ _ c.in-Some.item _ c.loop-item.invariant.along given.item
+          (c.size_in-size.ensures.is ∙ ap (size_by_octets (meant c.in-Some.item)) c.deref.ensures.0)
+          _ _ c.in-Some-split_at_checked.ensures.cases _ c.number-value.ensures.exact c.size_in-size.ensures.few c.if-not-is_within.ensures
+          _ given.next _ c.push.ensures.items _ c.from-present.ensures;
+    }
 
 pub returns : goal.returns
-returns g c = along_all _ _ _ _ _ _ _ _ c.loop-i.invariant (omega arith)
+returns g c =
+    let left = rw c.loop-item.invariant.same at c.in-None.ensures.steps.1 in
+    along_all _ _ _ _ _ _ _ _ c.loop-item.invariant.along left.past
