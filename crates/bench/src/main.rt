@@ -2,8 +2,8 @@
 #![tactic(auto)]
 
 mod answer;
-mod feed;
 mod digits;
+mod feed;
 mod input;
 mod line;
 mod print;

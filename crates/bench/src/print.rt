@@ -41,7 +41,8 @@ fn push_ok(out: &mut String, count: usize) -> Result<(), AllocError>
 fn push_rows<N: NamedLayout>(out: &mut String, layout: &N, rows: &[Row]) -> Result<(), AllocError>
     ensures { OnOk result (string_bytes out.new ≡ string_bytes out.old ++ rows_text (N.names layout.now) 0 (take (length (N.meaning layout.now).items) rows.now)) }
 {
-    for (i, row) in rows.iter().take(layout.count()).enumerate() {
+    let shown = layout.count().min(rows.len());
+    for (i, row) in rows[..shown].iter().enumerate() {
         push_row(out, layout.name(i), *row)?;
     }
     Ok(())
