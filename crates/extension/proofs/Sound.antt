@@ -270,7 +270,7 @@ accepted_some (Some k) (Some g) r i e =
 
 entry_item_lem : (e : RawEntry) (i : ItemMeaning) → entry_accepted e ≡ Some i → (may_exist i ≡ true) × OctetBit i.governor
 entry_item_lem e i h =
-    let a = (cond_some (is_name e.name) (accepted e.item) i h).1 in
+    let a = (cond_some (is_name e.name.letters) (accepted e.item) i h).1 in
     let q = accepted_some (kind_accepted e.item.kind) (governor_accepted e.item.governor e.item.bit) e.item i a in
     (q.0, governor_bit e.item.governor e.item.bit i.governor q.1)
 
@@ -293,7 +293,7 @@ may_add_gives o m x e i h =
 
 -- an accepted step stands behind accepted questions
 added_gives : (m : Meaning) (x : Extras) (e : RawEntry) (a : Answer ItemMeaning) (y : Extras) → added_by m x e a ≡ gives y
-    → (i : ItemMeaning) × (a ≡ gives i) × (with_added (record { name = e.name; item = i }) (name_governor (length m.items) i.governor x) ≡ y)
+    → (i : ItemMeaning) × (a ≡ gives i) × (with_added (record { name = e.name.letters; item = i }) (name_governor (length m.items) i.governor x) ≡ y)
 added_gives m x e (refused r) y h = never (sym h)
 added_gives m x e (gives i) y h = (i, refl, gives_inj h)
 
@@ -309,7 +309,7 @@ may_name_gives o m j bits h = (asked_yes _ _ _ _ (bound _ _ _ h).2).0
 sound_add : (o : ℕ) (m : Meaning) (x : Extras) (e : RawEntry) (y : Extras) → Sound m x → add_entry o m x e ≡ gives y → Sound m y
 sound_add o m x e y s h =
     let a = added_gives m x e (may_add o m x e) y h in
-    subst (Sound m) a.2 (sound_added m x a.0 e.name s (may_add_gives o m x e a.0 a.1))
+    subst (Sound m) a.2 (sound_added m x a.0 e.name.letters s (may_add_gives o m x e a.0 a.1))
 
 sound_name : (o : ℕ) (m : Meaning) (x : Extras) (j bits : ℕ) (y : Extras) → bits < 256 → Sound m x → name_bits o m x j bits ≡ gives y → Sound m y
 sound_name o m x j bits y l s h =

@@ -63,7 +63,7 @@ with_added i x = record { masks = x.masks; added = x.added ++ i ∷ [] }
 -- adding an entry, by the answer to its questions
 abbrev pub added_by : Meaning → Extras → RawEntry → Answer ItemMeaning → Answer Extras
 added_by m x e (refused r) = refused r
-added_by m x e (gives i) = gives (with_added (record { name = e.name; item = i }) (name_governor (length m.items) i.governor x))
+added_by m x e (gives i) = gives (with_added (record { name = e.name.letters; item = i }) (name_governor (length m.items) i.governor x))
 
 abbrev pub add_entry : ℕ → Meaning → Extras → RawEntry → Answer Extras
 add_entry o m x e = added_by m x e (may_add o m x e)

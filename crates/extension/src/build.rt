@@ -1,8 +1,9 @@
 //! Building an extension: adding items and naming bits.
-ghost use Rattle.std.specs.Prelude.{◌≡◌, ◌<◌, not, ◌&&◌, length, IfOk, OnErr, OnOk, ◌==◌, bit_and, nat_lt};
+ghost use Rattle.std.specs.Prelude.{◌≡◌, ◌<◌, not, ◌&&◌, IfOk, OnErr, OnOk, ◌==◌, bit_and, nat_lt};
+ghost use Rattle.arrayvec.specs.ArrayVec.{array_vec_len};
 ghost use Rattle.base.specs.Answers.{answer_of};
 ghost use Rattle.base.specs.Octets.{bit};
-ghost use Rattle.layout.specs.Items.{governed_by, is_bits};
+ghost use Rattle.layout.specs.Items.{is_bits};
 ghost use Rattle.layout.specs.Views.{meant, governor_meaning};
 ghost use Rattle.extension.specs.Building.{may_hang_on, may_add, add_entry, may_name, may_name_bits, name_bits, nothing_added, BuiltExtends};
 ghost use Rattle.extension.specs.Faults.{build_refusal};
@@ -19,29 +20,19 @@ use layout::kind::{Governor, Kind};
 use layout::lawful::{MOST_ITEMS, lawful};
 use layout::layout::Layout;
 
-/// Whether an item is a bits octet.
-fn is_octet(item: &Item) -> bool
-    ensures { result ≡ is_bits (meant item.now).kind }
-{
-    match item.kind {
-        Kind::Bits => true,
-        Kind::Number => false,
-    }
-}
-
 /// Whether an item is a bits octet in which a bit is spare.
 fn has_spare(item: &Item, place: u8) -> bool
     requires { place < 8 }
     ensures { result ≡ (is_bits (meant item.now).kind && bit place (meant item.now).mask == 0) }
 {
-    is_octet(item) && (item.mask >> place) % 2 == 0
+    item.kind == Kind::Bits && (item.mask >> place) % 2 == 0
 }
 
 /// Whether an item is a bits octet in which bits, not none, are all spare.
 fn has_all_spare(item: &Item, bits: u8) -> bool
     ensures { result ≡ (is_bits (meant item.now).kind && (not (bits == 0) && bit_and bits (meant item.now).mask == 0)) }
 {
-    is_octet(item) && bits != 0 && bits & item.mask == 0
+    item.kind == Kind::Bits && bits != 0 && bits & item.mask == 0
 }
 
 /// Whether there is space for one more item: 16 added and 64 in all.
@@ -58,58 +49,51 @@ impl<L: Layout> Extension<L> {
         ensures nothing { extras_of result.more ≡ nothing_added }
     {
         Extension {
+            count_below: below.count(),
             below,
             more: Additions::new(),
         }
     }
 
     /// Question 27: whether a governor is an earlier bits octet, its bit spare below or in an added item.
-    fn may_hang_on(&self, low: usize, governor: Governor) -> bool
-        requires { low ≡ length (L.meaning self.now.below).items }
-        ensures { result ≡ may_hang_on (L.meaning self.now.below) (extras_of self.now.more) (governed_by governor.item governor.bit) }
+    fn may_hang_on(&self, governor: Option<Governor>) -> bool
+        ensures { result ≡ may_hang_on (L.meaning self.now.below) (extras_of self.now.more) (governor_meaning governor) }
     {
-        let at = governor.item as usize;
-        if at < low {
-            let Some(item) = self.below.item(at) else {
-                unreachable();
-            };
-            return has_spare(&item, governor.bit);
-        }
-        if at - low >= self.more.count {
+        let Some(Governor { item, bit }) = governor else {
             return false;
+        };
+        let at = usize::from(item);
+        if at < self.count_below {
+            let octet = self.below.item(at);
+            return octet.is_some_and(|octet| has_spare(&octet, bit));
         }
-        let row = self.more.rows[at - low];
-        is_octet(&row.item)
+        let row = self.more.row(at - self.count_below);
+        row.is_some_and(|row| row.item.kind == Kind::Bits)
     }
 
     /// Puts the questions of adding: 1 to 3 of the layout below, 25, 26, 27.
+    #[tactic(auto, unfolding(crate::specs::Building::may_add, crate::specs::Building::item_or, base::specs::Answers::bind, base::specs::Answers::ask))]
     fn judge(&self, entry: &RawEntry) -> Result<Item, BuildFault>
         ensures answer { answer_of meant build_refusal result ≡ may_add L.source (L.meaning self.now.below) (extras_of self.now.more) entry.now }
-        ensures extends { BuiltExtends }
-        ensures ready { IfOk result (λ i. Ready (length (L.meaning self.now.below).items) self.now.more.count (governor_meaning i.governor)) }
+        ensures ready { IfOk result (λ i. Ready self.now.count_below (array_vec_len self.now.more.rows) (governor_meaning i.governor)) }
     {
-        lawful(&self.below)?;
-        let low = self.below.count();
-        let count = low + self.more.count;
-        let Some(item) = entry.accept() else {
-            return Err(BuildFault::Entry { item: count });
-        };
-        if !has_space(self.more.count, count) {
+        let below = lawful(&self.below)?;
+        let added = self.more.rows.len();
+        let count = below.count + added;
+        let item = entry.accept().ok_or(BuildFault::Entry { item: count })?;
+        if !has_space(added, count) {
             return Err(BuildFault::Space { count });
         }
-        let refused = BuildFault::Governor {
-            governor: entry.item.governor,
-        };
-        let Some(governor) = item.governor else {
-            return Err(refused);
-        };
-        if !self.may_hang_on(low, governor) {
-            return Err(refused);
+        if !self.may_hang_on(item.governor) {
+            return Err(BuildFault::Governor {
+                governor: entry.item.governor,
+            });
         }
         Ok(item)
     }
 
     /// Adds an item behind the others, and names its governor's bit. The entry is written as in a layout file.
+    #[tactic(auto, using(crate::proofs::Sound::built_extends))]
     pub fn add(&mut self, entry: RawEntry) -> Result<(), BuildFault>
         ensures answer { answer_of (λ _. extras_of self.new.more) build_refusal result ≡ add_entry L.source (L.meaning self.old.below) (extras_of self.old.more) entry }
         ensures unchanged { OnErr result (self.new.more ≡ self.old.more) }
@@ -117,8 +101,7 @@ impl<L: Layout> Extension<L> {
         ensures extends { BuiltExtends }
     {
         let item = self.judge(&entry)?;
-        let low = self.below.count();
-        self.more.insert(low, entry.name, item);
+        self.more.insert(self.count_below, entry.name, item);
         Ok(())
     }
 
@@ -126,16 +109,14 @@ impl<L: Layout> Extension<L> {
     fn may_name(&self, item: usize, bits: u8) -> bool
         ensures { result ≡ may_name (L.meaning self.now.below) item bits }
     {
-        match self.below.item(item) {
-            Some(octet) => has_all_spare(&octet, bits),
-            None => false,
-        }
+        let octet = self.below.item(item);
+        octet.is_some_and(|octet| has_all_spare(&octet, bits))
     }
 
     /// Puts the questions of naming: 1 to 3 of the layout below, 28.
+    #[tactic(auto, unfolding(crate::specs::Building::may_name_bits, base::specs::Answers::bind, base::specs::Answers::ask))]
     fn judge_bits(&self, item: usize, bits: u8) -> Result<(), BuildFault>
         ensures answer { answer_of (λ u. u) build_refusal result ≡ may_name_bits L.source (L.meaning self.now.below) item bits }
-        ensures extends { BuiltExtends }
         ensures within { OnOk result (item < 64) }
     {
         lawful(&self.below)?;
@@ -146,6 +127,7 @@ impl<L: Layout> Extension<L> {
     }
 
     /// Names bits of a bits octet below.
+    #[tactic(auto, using(crate::proofs::Sound::built_extends))]
     pub fn name_bits(&mut self, item: usize, bits: u8) -> Result<(), BuildFault>
         ensures answer { answer_of (λ _. extras_of self.new.more) build_refusal result ≡ name_bits L.source (L.meaning self.old.below) (extras_of self.old.more) item bits }
         ensures unchanged { OnErr result (self.new.more ≡ self.old.more) }

@@ -37,7 +37,7 @@ impl From<BuildFault> for Refusal {
 
     fn from(fault: BuildFault) -> Refusal {
         let (question, place) = match fault {
-            BuildFault::Below(cause) => return cause.into(),
+            BuildFault::Below(fault) => return fault.into(),
             BuildFault::Entry { item } => (Question::Entry, item),
             BuildFault::Space { count } => (Question::Space, count),
             BuildFault::Governor { governor } => (Question::AddedGovernor, governor as usize),

@@ -1,6 +1,10 @@
 //! What is added, item by item.
 ghost use Rattle.std.specs.Prelude.{◌≡◌, ◌+◌, ◌<◌, ◌≤◌};
+ghost use Rattle.std.specs.List.{slice_get};
+ghost use Rattle.std.specs.Option.{option_map};
+ghost use Rattle.arrayvec.specs.ArrayVec.{array_vec_len};
 ghost use Rattle.layout.specs.Items.{governed_by};
+ghost use Rattle.layout.specs.Tables.{row_meaning};
 ghost use Rattle.layout.specs.Views.{meant, governor_meaning};
 ghost use Rattle.extension.specs.Building.{name_below, name_added, name_governor, with_added, nothing_added};
 ghost use Rattle.extension.specs.Extended.{named_too};
@@ -8,34 +12,21 @@ ghost use Rattle.extension.specs.Ready.{Ready};
 ghost use Rattle.extension.specs.Views.{extras_of};
 
 use crate::additions::Additions;
-use crate::origin::MOST_ADDED;
+use arrayvec::ArrayVec;
 use layout::item::Item;
 use layout::kind::{Governor, Kind};
 use layout::lawful::MOST_ITEMS;
+use layout::name::Name;
 use layout::table::TableRow;
 
-/// What stands in a place that no added item has taken yet.
-const UNUSED: TableRow = TableRow {
-    name: [0; 3],
-    item: Item {
-        kind: Kind::Bits,
-        governor: None,
-        length: 1,
-        mask: 0,
-        limit: 0,
-    },
-};
-
 /// The item with further bits named, if it is a bits octet.
-pub(crate) fn with_bits(item: Item, bits: u8) -> Item
+pub(crate) fn with_bits(mut item: Item, bits: u8) -> Item
     ensures { meant result ≡ named_too bits (meant item) }
 {
-    if let Kind::Number = item.kind {
-        return item;
+    if item.kind == Kind::Bits {
+        item.mask |= bits;
     }
-    let mut named = item;
-    named.mask |= bits;
-    named
+    item
 }
 
 impl Additions {
@@ -45,50 +36,44 @@ impl Additions {
     {
         Additions {
             masks: [0; MOST_ITEMS],
-            rows: [UNUSED; MOST_ADDED],
-            count: 0,
+            rows: ArrayVec::new(),
         }
+    }
+
+    /// Added item number `k` with its name; none past the last.
+    pub(crate) fn row(&self, k: usize) -> Option<TableRow>
+        ensures { option_map row_meaning result ≡ slice_get (extras_of self.now).added k }
+    {
+        self.rows.get(k).copied()
     }
 
     /// Names bits at a place below.
     pub(crate) fn name_below(&mut self, place: usize, bits: u8)
         requires { place < 64 }
         ensures extras { extras_of self.new ≡ name_below place bits (extras_of self.old) }
-        ensures count { self.new.count ≡ self.old.count }
+        ensures rows { self.new.rows ≡ self.old.rows }
     {
         self.masks[place] |= bits;
     }
 
     /// Names bits in an added item.
     fn name_added(&mut self, k: usize, bits: u8)
-        requires { k < self.old.count }
+        requires { k < array_vec_len self.old.rows }
         ensures extras { extras_of self.new ≡ name_added k bits (extras_of self.old) }
-        ensures count { self.new.count ≡ self.old.count }
+        ensures count { array_vec_len self.new.rows ≡ array_vec_len self.old.rows }
     {
-        let row = self.rows[k];
-        let name = row.name;
-        let item = with_bits(row.item, bits);
-        self.rows[k] = TableRow { name, item };
-    }
-
-    /// Adds an item behind the others.
-    fn push(&mut self, name: [u8; 3], item: Item)
-        requires { self.old.count < 16 }
-        ensures { extras_of self.new ≡ with_added (record { name = name; item = meant item }) (extras_of self.old) }
-    {
-        let at = self.count;
-        self.rows[at] = TableRow { name, item };
-        self.count = at + 1;
+        let row = &mut self.rows[k];
+        row.item = with_bits(row.item, bits);
     }
 
     /// Names a governor's bit, below a list of `low` items or in an added item.
     fn name_governor(&mut self, low: usize, governor: Governor)
         requires few { low ≤ 64 }
-        requires within { governor.item < low + self.old.count }
+        requires within { governor.item < low + array_vec_len self.old.rows }
         ensures extras { extras_of self.new ≡ name_governor low (governed_by governor.item governor.bit) (extras_of self.old) }
-        ensures count { self.new.count ≡ self.old.count }
+        ensures count { array_vec_len self.new.rows ≡ array_vec_len self.old.rows }
     {
-        let at = governor.item as usize;
+        let at = usize::from(governor.item);
         let bits = 1u8 << governor.bit;
         if at < low {
             self.name_below(at, bits);
@@ -98,13 +83,13 @@ impl Additions {
     }
 
     /// Adds an item, over a layout of `low` items, and names its governor's bit.
-    pub(crate) fn insert(&mut self, low: usize, name: [u8; 3], item: Item)
-        requires { Ready low self.old.count (governor_meaning item.governor) }
-        ensures { extras_of self.new ≡ with_added (record { name = name; item = meant item }) (name_governor low (governor_meaning item.governor) (extras_of self.old)) }
+    pub(crate) fn insert(&mut self, low: usize, name: Name, item: Item)
+        requires { Ready low (array_vec_len self.old.rows) (governor_meaning item.governor) }
+        ensures { extras_of self.new ≡ with_added (record { name = name.letters; item = meant item }) (name_governor low (governor_meaning item.governor) (extras_of self.old)) }
     {
         if let Some(governor) = item.governor {
             self.name_governor(low, governor);
         }
-        self.push(name, item);
+        self.rows.push(TableRow { name, item });
     }
 }
