@@ -1,4 +1,6 @@
 //! The steps of a level, done.
+ghost use Rattle.std.specs.Prelude.{◌≤◌, length, IfOk};
+
 use crate::show::{show_items, show_reading};
 use crate::step::{Step, step_in};
 use base::refusal::Refusal;
@@ -57,7 +59,9 @@ pub(crate) fn run_level<'a, N: NamedLayout>(
     rt: &HostRuntime,
     lines: &'a [String],
     extension: &mut Extension<N>,
-) -> anyhow::Result<&'a [String]> {
+) -> anyhow::Result<&'a [String]>
+    ensures { IfOk result (λ rest. length rest.now ≤ length lines.now) }
+{
     let mut rest = lines;
     while let Some((line, behind)) = rest.split_first() {
         match step_in(line.as_str())? {

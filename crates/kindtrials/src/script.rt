@@ -1,4 +1,6 @@
 //! Sessions: a line `layout` with the name of a layout, then steps on an extension of it; `up` goes on with an extension of that.
+ghost use Rattle.std.specs.Prelude.{◌≤◌, length, IfOk};
+
 use crate::build::run_level;
 use extension::extension::Extension;
 use layout::named::NamedLayout;
@@ -11,7 +13,9 @@ fn run_over<'a, N: NamedLayout + Drop>(
     rt: &HostRuntime,
     lines: &'a [String],
     layout: N,
-) -> anyhow::Result<&'a [String]> {
+) -> anyhow::Result<&'a [String]>
+    ensures { IfOk result (λ rest. length rest.now ≤ length lines.now) }
+{
     let mut first = Extension::new(layout);
     let rest = run_level(rt, lines, &mut first)?;
     let mut second = Extension::new(first);
@@ -25,7 +29,9 @@ fn run_session<'a>(
     rt: &HostRuntime,
     lines: &'a [String],
     word: &str,
-) -> anyhow::Result<&'a [String]> {
+) -> anyhow::Result<&'a [String]>
+    ensures { IfOk result (λ rest. length rest.now ≤ length lines.now) }
+{
     if let Ok(layout) = word.parse::<Published>() {
         return run_over(rt, lines, layout);
     }
@@ -36,14 +42,11 @@ fn run_session<'a>(
 /// Runs each session of standard input.
 pub(crate) fn run_sessions(rt: &HostRuntime) -> anyhow::Result<()> {
     let mut lines = Vec::new(rt.alloc());
-    for line in rt.lines(rt.alloc()) {
-        lines.push(line?)?;
+    for read in rt.lines(rt.alloc()) {
+        lines.push(read?)?;
     }
     let mut rest = lines.as_slice();
-    for _ in 0..lines.len() {
-        let Some((line, behind)) = rest.split_first() else {
-            return Ok(());
-        };
+    while let Some((line, behind)) = rest.split_first() {
         let Some(word) = line.strip_prefix("layout ") else {
             println!(rt; "{line}: no layout")?;
             return Ok(());

@@ -31,6 +31,7 @@ impl<'a> Layout for Listed<'a> {
         self.pdu_type
     }
 
+    #[tactic(auto, using(std::proofs::lemmas::Grind::common_steps))]
     fn count(&self) -> usize {
         self.items.len()
     }
