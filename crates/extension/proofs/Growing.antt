@@ -14,10 +14,7 @@ use Rattle.layout.proofs.Passing.{Passes, passes_from, lawful_from}
 use Rattle.pile.specs.Extends.{LawfulLayout, Alike, HangsAbove, Extends}
 use Rattle.pile.proofs.Ordering.{keeps_bit, extends_is_order}
 use Rattle.extension.specs.Extended.{joined_mask, named_too}
-
--- a layout with other items
-abbrev pub with_items : Meaning → List ItemMeaning → Meaning
-with_items m is = record { pdu_type = m.pdu_type; items = is }
+use Rattle.extension.proofs.Listing.{with_items}
 
 -- the items of a list are alike those of another at the same places
 abbrev AlikeAll : List ItemMeaning → List ItemMeaning → Type 0

@@ -1,10 +1,9 @@
 -- What the questions of building say of the item that is added.
-use Rattle.std.proofs.Common.{◌≡◌, ℕ, ◌+◌, ◌-◌, ◌<◌, ◌≤◌, Bool, true, cond, ◌&&◌, eqb, ltb, length, sym, ap, ◌∙◌, subst, ⊎_elim, arith}
+use Rattle.std.proofs.Common.{◌≡◌, ℕ, ◌+◌, ◌<◌, ◌≤◌, Bool, true, ◌&&◌, ltb, length, sym, subst, arith}
 use Rattle.std.proofs.lemmas.Bool.Decides.{nat_tests}
-use Rattle.std.proofs.lemmas.Bool.{le-ltb, ltb-true, and_parts, cases_lt}
-use Rattle.base.specs.Octets.{bit}
-use Rattle.layout.specs.Items.{ItemGovernor, ungoverned, governed_by, Meaning, is_bits, item_at}
-use Rattle.extension.specs.Extended.{Extras, added_items}
+use Rattle.std.proofs.lemmas.Bool.{ltb-true, and_parts}
+use Rattle.layout.specs.Items.{ItemGovernor, ungoverned, governed_by, Meaning}
+use Rattle.extension.specs.Extended.{Extras}
 use Rattle.extension.specs.Building.{may_hang_on}
 use Rattle.extension.specs.Ready.{Within, Ready}
 

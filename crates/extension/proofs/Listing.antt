@@ -1,11 +1,12 @@
 -- What an extension has at each place.
-use Rattle.std.proofs.Common.{◌≡◌, ℕ, zero, suc, ◌+◌, ◌-◌, ◌<◌, ◌≤◌, Bool, true, false, cond, leb, List, [], ◌∷◌, ◌++◌, map, length, get_or, set, sym, refl, ap, ap₂, ◌∙◌, le_of_suc-le-suc, not-suc-le-zero, arith, length-append}
+use Rattle.std.proofs.Common.{◌≡◌, ℕ, Option, zero, suc, ◌+◌, ◌-◌, ◌<◌, ◌≤◌, Bool, true, false, cond, leb, List, [], ◌∷◌, ◌++◌, map, length, get_or, set, sym, refl, ap, ap₂, ◌∙◌, le_of_suc-le-suc, not-suc-le-zero, arith, length-append}
 use lib.ListN.{length-map}
 use Rattle.std.specs.List.{slice_get}
 use Rattle.std.specs.Option.{option_map, unwrap_or}
 use Rattle.std.proofs.lemmas.List.{map-set, get_or-map, get_or-append_right}
 use Rattle.std.proofs.lemmas.Bool.{le-leb}
-use Rattle.layout.specs.Items.{ItemMeaning, Meaning, item_at}
+use Rattle.std.proofs.lemmas.Option.{slice_get-map, unwrap_or-slice_get}
+use Rattle.layout.specs.Items.{ItemMeaning, Meaning}
 use Rattle.layout.specs.Tables.{NamedItem}
 use Rattle.extension.specs.Extended.{Extras, named_too, with_masks, added_items, extended, extended_names}
 
@@ -27,13 +28,6 @@ nth-with_masks (m ∷ ms) [] i h = refl
 nth-with_masks (m ∷ ms) (y ∷ is) zero h = refl
 nth-with_masks (m ∷ ms) (y ∷ is) (suc i) h = nth-with_masks ms is i (le_of_suc-le-suc h)
 
-pub at_with_masks : (ms : List ℕ) (is : List ItemMeaning) (j : ℕ) → j < length ms → j < length is
-    → item_at (with_masks ms is) j ≡ named_too (get_or ms j 0) (item_at is j)
-at_with_masks [] is j h l = absurd (not-suc-le-zero h)
-at_with_masks (m ∷ ms) [] j h l = absurd (not-suc-le-zero l)
-at_with_masks (m ∷ ms) (i ∷ is) zero h l = refl
-at_with_masks (m ∷ ms) (i ∷ is) (suc j) h l = at_with_masks ms is j (le_of_suc-le-suc h) (le_of_suc-le-suc l)
-
 nth_left : {X : Type 0} (a b : List X) (i : ℕ) → i < length a → slice_get a i ≡ slice_get (a ++ b) i
 nth_left [] b i h = absurd (not-suc-le-zero h)
 nth_left (x ∷ a) b zero h = refl
@@ -47,28 +41,22 @@ nth_right (x ∷ a) b (suc i) n e h = ap (slice_get b) (step n e) ∙ nth_right 
     step : (n : ℕ) → suc (length a) ≡ n → suc i - n ≡ i - (n - 1)
     step n e = omega arith
 
-nth-map_option : {X Y : Type 0} (f : X → Y) (xs : List X) (i : ℕ) → option_map f (slice_get xs i) ≡ slice_get (map f xs) i
-nth-map_option f [] i = refl
-nth-map_option f (x ∷ xs) zero = refl
-nth-map_option f (x ∷ xs) (suc i) = nth-map_option f xs i
-
-get_or-slice_get : {X Y : Type 0} (f : X → Y) (xs : List X) (k : ℕ) (d : Y) → get_or (map f xs) k d ≡ unwrap_or (option_map f (slice_get xs k)) d
-get_or-slice_get f [] k d = refl
-get_or-slice_get f (x ∷ xs) zero d = refl
-get_or-slice_get f (x ∷ xs) (suc k) d = get_or-slice_get f xs k d
+-- the items over at most 64 items below
+abbrev pub items_of : Meaning → Extras → List ItemMeaning
+items_of m x = with_masks x.masks m.items ++ added_items x
 
 -- a layout with other items
-abbrev with_items : Meaning → List ItemMeaning → Meaning
+abbrev pub with_items : Meaning → List ItemMeaning → Meaning
 with_items m is = record { pdu_type = m.pdu_type; items = is }
 
 module _ (m : Meaning) (x : Extras) where
-  module _ (few : length m.items ≤ 64) where
-    pub extended_is : extended m x ≡ record { pdu_type = m.pdu_type; items = with_masks x.masks m.items ++ added_items x }
-    extended_is =
-        ap (λ (b : Bool). cond b (record { pdu_type = m.pdu_type; items = with_masks x.masks m.items ++ added_items x }) m) (le-leb (length m.items) 64 few)
+  pub length_items : length (items_of m x) ≡ length m.items + length x.added
+  length_items =
+      length-append (with_masks x.masks m.items) (added_items x)
+      ∙ ap₂ ◌+◌ (length-with_masks x.masks m.items) (length-map x.added (λ (i : NamedItem). i.item))
 
-    items_are : (extended m x).items ≡ with_masks x.masks m.items ++ added_items x
-    items_are = ap (λ (y : Meaning). y.items) extended_is
+  pub extended_is : length m.items ≤ 64 → extended m x ≡ with_items m (items_of m x)
+  extended_is few = ap (λ (b : Bool). cond b (with_items m (items_of m x)) m) (le-leb (length m.items) 64 few)
 
 -- what an extension adds: the masks ms and the items xs
 abbrev adding : List ℕ → List NamedItem → Extras
@@ -79,10 +67,8 @@ module _ (m : Meaning) (ms : List ℕ) (xs : List NamedItem) where
   pub extended_length : length (extended m (adding ms xs)).items ≡ cond (leb (length m.items) 64) (length m.items + length xs) (length m.items)
   extended_length = by (leb (length m.items) 64)
     where
-      by : (b : Bool) → length (cond b (with_items m (with_masks ms m.items ++ added_items (adding ms xs))) m).items ≡ cond b (length m.items + length xs) (length m.items)
-      by true =
-          length-append (with_masks ms m.items) (added_items (adding ms xs))
-          ∙ ap₂ (λ (j k : ℕ). j + k) (length-with_masks ms m.items) (length-map xs (λ (x : NamedItem). x.item))
+      by : (b : Bool) → length (cond b (with_items m (items_of m (adding ms xs))) m).items ≡ cond b (length m.items + length xs) (length m.items)
+      by true = length_items m (adding ms xs)
       by false = refl
 
   pub extended_count : length m.items ≤ 64 → length (extended m (adding ms xs)).items ≡ length m.items + length xs
@@ -91,17 +77,16 @@ module _ (m : Meaning) (ms : List ℕ) (xs : List NamedItem) where
   pub extended_low : (i : ℕ) → length m.items ≤ 64 → i < length m.items → i < length ms
       → slice_get (extended m (adding ms xs)).items i ≡ option_map (named_too (get_or ms i 0)) (slice_get m.items i)
   extended_low i few h l =
-      ap (λ (is : List ItemMeaning). slice_get is i) (items_are m (adding ms xs) few)
+      ap (λ (y : Meaning). slice_get y.items i) (extended_is m (adding ms xs) few)
       ∙ sym (nth_left (with_masks ms m.items) (added_items (adding ms xs)) i (omega (arith, length-with_masks ms m.items)))
       ∙ nth-with_masks ms m.items i l
 
   pub extended_high : (i : ℕ) → length m.items ≤ 64 → length m.items ≤ i
       → slice_get (extended m (adding ms xs)).items i ≡ option_map (λ (y : NamedItem). y.item) (slice_get xs (i - length m.items))
   extended_high i few h =
-      ap (λ (is : List ItemMeaning). slice_get is i) (items_are m (adding ms xs) few)
-      ∙ sym
-      (nth-map_option (λ (y : NamedItem). y.item) xs (i - length m.items)
-      ∙ nth_right (with_masks ms m.items) (added_items (adding ms xs)) i (length m.items) (length-with_masks ms m.items) h)
+      ap (λ (y : Meaning). slice_get y.items i) (extended_is m (adding ms xs) few)
+      ∙ sym (nth_right (with_masks ms m.items) (added_items (adding ms xs)) i (length m.items) (length-with_masks ms m.items) h)
+      ∙ slice_get-map (λ (y : NamedItem). y.item) xs (i - length m.items)
 
 -- the names over n items, ns being those below
 module _ (n : ℕ) (ns : List (List ℕ)) (xs : List NamedItem) where
@@ -117,4 +102,5 @@ module _ (n : ℕ) (ns : List (List ℕ)) (xs : List NamedItem) where
   names_high i d e few h =
       ap (λ (b : Bool). get_or (cond b (ns ++ map (λ (i : NamedItem). i.name) xs) ns) i d) (le-leb n 64 few)
       ∙ get_or-append_right ns (map (λ (i : NamedItem). i.name) xs) n i d e h
-      ∙ get_or-slice_get (λ (i : NamedItem). i.name) xs (i - n) d
+      ∙ sym (unwrap_or-slice_get (map (λ (i : NamedItem). i.name) xs) (i - n) d)
+      ∙ ap (λ (o : Option (List ℕ)). unwrap_or o d) (slice_get-map (λ (i : NamedItem). i.name) xs (i - n))

@@ -1,8 +1,8 @@
 -- Whatever is built over a lawful layout extends it.
-use Rattle.std.proofs.Common.{◌≡◌, ℕ, zero, suc, ◌+◌, ◌-◌, ◌/◌, ◌%◌, ◌^◌, ◌<◌, ◌≤◌, Bool, true, false, cond, eqb, ltb, List, [], ◌∷◌, ◌++◌, length, get_or, set, replicate, Some, None, Option, sym, refl, ap, ◌∙◌, subst, ap₂, inl, inr, ⊎_elim, append_assoc, append-nil, le_of_suc-le-suc, not-suc-le-zero, arith, lit<, length-append, length-set}
+use Rattle.std.proofs.Common.{◌≡◌, ℕ, zero, suc, ◌+◌, ◌-◌, ◌/◌, ◌%◌, ◌^◌, ◌<◌, ◌≤◌, Bool, true, false, cond, eqb, ltb, List, [], ◌∷◌, ◌++◌, length, get_or, set, replicate, Some, None, Option, sym, refl, ap, ◌∙◌, subst, ap₂, inl, inr, ⊎_elim, append_assoc, append-nil, le_of_suc-le-suc, not-suc-le-zero, arith, lit<, length-set}
 use lib.Arith.{bin_ind}
 use lib.Bits.{bit_or, or_step, or_shr, or_zero_r}
-use lib.ListN.{length-replicate, length-map, get_or-map}
+use lib.ListN.{length-replicate, get_or-map}
 use Rattle.std.proofs.lemmas.List.{get_or_append_left, get_or-append_right, set-append_left, set-append_right, map-set, map_push}
 use Rattle.std.proofs.lemmas.Bool.{and_parts, eqb-true, ltb-true, lt-ltb, le-ltb, cases_lt, cond-true, cond-false, cond_both}
 use Rattle.base.specs.declared.refusal.Refusal.{Refusal}
@@ -24,8 +24,8 @@ use Rattle.pile.proofs.Ordering.{extends_is_order}
 use Rattle.extension.specs.Extended.{Extras, joined_mask, named_too, with_masks, added_items}
 use Rattle.extension.specs.Building.{item_or, may_hang_on, may_add, name_below, no_named, called_too, name_added, name_governor, with_added, added_by, add_entry, may_name, may_name_bits, named_by, name_bits}
 use Rattle.extension.specs.Building.{BuildStep, adding, naming, build, kept, nothing_added, built, OctetStep, OctetSteps, BuiltExtends}
-use Rattle.extension.proofs.Listing.{length-with_masks, extended_is}
-use Rattle.extension.proofs.Growing.{with_items, named_at, extends_naming, extends_governed}
+use Rattle.extension.proofs.Listing.{length-with_masks, items_of, with_items, length_items, extended_is}
+use Rattle.extension.proofs.Growing.{named_at, extends_naming, extends_governed}
 
 -- bits joined one after another are joined at once
 or_assoc : (a b c : ℕ) → bit_or (bit_or a b) c ≡ bit_or a (bit_or b c)
@@ -67,16 +67,7 @@ masks_named (m ∷ ms) (i ∷ is) zero bits h l = ap (λ (x : ItemMeaning). x �
 masks_named (m ∷ ms) (i ∷ is) (suc j) bits h l =
     ap (λ (r : List ItemMeaning). named_too m i ∷ r) (masks_named ms is j bits (le_of_suc-le-suc h) (le_of_suc-le-suc l))
 
--- the items of an extension of at most 64 items below
-abbrev items_of : Meaning → Extras → List ItemMeaning
-items_of m x = with_masks x.masks m.items ++ added_items x
-
 module _ (m : Meaning) (x : Extras) where
-  length_items : length (items_of m x) ≡ length m.items + length x.added
-  length_items =
-      length-append (with_masks x.masks m.items) (added_items x)
-      ∙ ap₂ ◌+◌ (length-with_masks x.masks m.items) (length-map x.added (λ (i : NamedItem). i.item))
-
   items_at_added : (g : ℕ) → length m.items ≤ g → item_at (items_of m x) g ≡ item_at (added_items x) (g - length m.items)
   items_at_added g h =
       get_or-append_right (with_masks x.masks m.items) (added_items x) (length m.items) g no_item (length-with_masks x.masks m.items) h

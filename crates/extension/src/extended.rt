@@ -52,7 +52,7 @@ impl<L: Layout> Layout for Extension<L> {
 impl<L: NamedLayout> NamedLayout for Extension<L> {
     ghost names = { λ e. extended_names (length (L.meaning e.below).items) (L.names e.below) (extras_of e.more) };
 
-    #[tactic(auto, using(crate::proofs::Listing::extended_length, crate::proofs::Listing::names_length, crate::proofs::Listing::names_high, layout::proofs::Nths::nth_past))]
+    #[tactic(auto, using(crate::proofs::Listing::extended_length, crate::proofs::Listing::names_length, crate::proofs::Listing::names_high, std::proofs::lemmas::Option::slice_get_past))]
     fn name(&self, i: usize) -> Name {
         // Asked first, since only with an answer does the layout below say that it has a name for each item.
         let below = self.below.name(i);

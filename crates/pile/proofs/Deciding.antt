@@ -1,9 +1,8 @@
 -- Deciding whether a layout extends another: what each comparison of the code adds.
-use Rattle.std.proofs.Common.{◌≡◌, ℕ, ◌+◌, ◌<◌, ◌≤◌, List, length, Some, None, Ok, Err, Result, MatchResult, IfOk, sym, refl, ap, ◌∙◌, subst, ⊎_elim, arith, below_more}
+use Rattle.std.proofs.Common.{◌≡◌, ℕ, ◌+◌, ◌<◌, ◌≤◌, List, length, Some, None, sym, ap, ◌∙◌, subst, ⊎_elim, arith, below_more}
 use Rattle.std.specs.List.{slice_get}
 use Rattle.std.proofs.lemmas.Bool.{cases_lt}
 use Rattle.base.specs.Answers.{gives}
-use Rattle.base.proofs.Asking.{never}
 use Rattle.layout.specs.declared.item.Item.{Item}
 use Rattle.layout.specs.Itemized.{ItemGiven}
 use Rattle.layout.specs.Views.{meant}
@@ -12,42 +11,17 @@ use Rattle.layout.specs.Questions.{lawful}
 use Rattle.layout.proofs.Nths.{lt_from_nth, le_from_nth, get_or-from_nth}
 use Rattle.layout.proofs.Passing.{lawful_any}
 use Rattle.pile.specs.declared.fault.Part.{Part}
-use Rattle.pile.specs.declared.fault.Part.TheVariants.{Kind, Governor, Length, Limit, Mask}
-use Rattle.pile.specs.declared.fault.ExtendsFault.TheVariants.{Lower, Upper, PduType, Missing, Unlike, Stray}
+use Rattle.pile.specs.declared.fault.ExtendsFault.TheVariants.{Missing, Unlike, Stray}
 use Rattle.pile.specs.Extends.{LawfulLayout, Alike, HangsAbove, Extends}
-use Rattle.pile.specs.Reasons.{Differs, Comparable, AlikeBelow, FurtherBelow, Reason, ReasonsExclude}
+use Rattle.pile.specs.Reasons.{Differs, Comparable, AlikeBelow, FurtherBelow, Reason}
 
 pub lawful_layout : (o : ℕ) (m : Meaning) → EachMayExist m.items → lawful o m ≡ gives tt → LawfulLayout m
 lawful_layout o m e h = record { items = e; passes = lawful_any m o h }
-
--- behind what `map_err` made of a result: the value that it passed on, and the error that it changed
-pub ok_mapped : {T E : Type 0} (D : Type 0) (P : T → Type 0) (r : Result T E) (x : T) → IfOk r P → MatchResult r (λ y. ◌≡◌ {A = Result T D} (Ok x) (Ok y)) (λ e. ⊥) → P x
-ok_mapped D P (Ok y) x h m = let e : y ≡ x = cc in subst P e h
-ok_mapped D P (Err e) x h m = absurd m
-
-pub err_mapped : {T E D : Type 0} (f : E → D) (r : Result T E) (d : D) → MatchResult r (λ y. ◌≡◌ {A = Result T D} (Err d) (Ok y)) (λ e. d ≡ f e) → (e : E) × (r ≡ Err e) × (d ≡ f e)
-err_mapped f (Ok y) d m = cc
-err_mapped f (Err e) d m = (e, refl, m)
 
 -- what the code keeps of two lawful layouts of one type
 pub comparable : (o p : ℕ) (low up : Meaning) → EachMayExist low.items → lawful o low ≡ gives tt → EachMayExist up.items → lawful p up ≡ gives tt
     → low.pdu_type ≡ up.pdu_type → Comparable low up
 comparable o p low up e f g h t = record { below = lawful_layout o low e f; above = lawful_layout p up g h; type = t }
-
-differs_alike : (p : Part) (l u : ItemMeaning) → Differs p l u → Alike l u → ⊥
-differs_alike Kind l u d a = d a.kind
-differs_alike Governor l u d a = d.1 a.governor
-differs_alike Length l u d a = d.2 a.len
-differs_alike Limit l u d a = d.3 a.limit
-differs_alike Mask l u d a = d.4 a.keeps
-
-pub reasons_exclude : ReasonsExclude
-reasons_exclude o p low up (Lower f) r e = never (sym (e.below.passes o) ∙ r)
-reasons_exclude o p low up (Upper f) r e = never (sym (e.above.passes p) ∙ r.1)
-reasons_exclude o p low up (PduType l u) r e = r.4 e.type
-reasons_exclude o p low up (Missing n) r e = omega (arith, r.2, r.3, e.first)
-reasons_exclude o p low up (Unlike n part) r e = differs_alike part _ _ r.4 (e.alike n r.2)
-reasons_exclude o p low up (Stray n) r e = r.5 (e.further n r.3 r.4)
 
 -- an item that two lists have at a place, by what the code was answered
 at_place : (P : ItemMeaning → ItemMeaning → Type 0) (low up : List ItemMeaning) (i : ℕ) (l u : ItemMeaning)

@@ -20,6 +20,7 @@ struct Comparison<'l, 'u, L: Layout, U: Layout> {
 }
 
 /// Whether both layouts are lawful and of one type.
+#[tactic(auto, using(crate::proofs::Deciding::lawful_layout))]
 fn check_both<'l, 'u, L: Layout, U: Layout>(
     lower: &'l L,
     upper: &'u U,
@@ -69,6 +70,7 @@ impl<L: Layout, U: Layout> Comparison<'_, '_, L, U> {
     }
 
     /// Looks at the governor of each item of the upper layout behind the lower's.
+    #[tactic(auto, using(crate::proofs::Deciding::comparable, crate::proofs::Deciding::further_more, crate::proofs::Deciding::extends_from))]
     fn check_further(&self) -> Result<(), ExtendsFault>
         requires { AlikeBelow (L.meaning self.now.lower.layout.now).items (U.meaning self.now.upper.layout.now).items self.now.lower.count }
         ensures { MatchResult result (λ _. Extending (L.meaning self.now.lower.layout.now) (U.meaning self.now.upper.layout.now)) (λ f. Reason L.source U.source (L.meaning self.now.lower.layout.now) (U.meaning self.now.upper.layout.now) f) }

@@ -1,4 +1,4 @@
-use Rattle.std.proofs.Common.{◌+◌, sym, ◌∙◌, arith, ap}
+use Rattle.std.proofs.Common.{◌+◌, sym, ◌∙◌, ap}
 use Rattle.pile.proofs.Deciding.{comparable, missing_here, alike_more, unlike_here}
 use Rattle.pile.proofs.extends.Comparison.compare_items.Goals as goal
 
@@ -31,8 +31,3 @@ loop-item-preserved g c =
           alike_more (g.L.Layout.meaning b.lower.layout.now) (g.U.Layout.meaning b.upper.layout.now) _ _ _ _ c.loop-item.invariant.alike
           (c.in-Some.ensures.steps.1 ∙ c.loop-item.invariant.place) given _ c.in-Some-item.ensures c.in_default-difference.ensures;
     }
-
-pub returns : goal.returns
-returns g c =
-    let left = rw c.loop-item.invariant.same at c.in-None.ensures.steps.0.1 in
-    λ j h. c.loop-item.invariant.alike j (omega (arith, c.args.self.now.lower.counted, left.past))
