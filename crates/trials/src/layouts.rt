@@ -2,6 +2,7 @@
 use crate::listed::Listed;
 use base::refusal::Refusal;
 use layout::item::Item;
+use layout::items::Items;
 use layout::lawful::lawful;
 use layout::layout::Layout;
 use layout::maker::{NO_GOVERNOR, RawItem};
@@ -167,7 +168,7 @@ fn constant_of<L: Layout>(_layout: &L) -> u8 {
 
 /// Prints the names of a published layout, and the octets of the name past its end.
 fn name_items(rt: &HostRuntime, layout: Published) -> anyhow::Result<()> {
-    for i in 0..layout.count() {
+    for (i, _) in Items::new(&layout).enumerate() {
         let name = layout.name(i);
         print!(rt; "{name} ")?;
     }
