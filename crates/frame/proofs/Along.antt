@@ -47,12 +47,12 @@ next_item is i p seen os rest x n v e s =
 
 module _ (is : List ItemMeaning) (p₀ : ℕ) (o : List ℕ) where
   module _ (i : ℕ) (os : List ℕ) (many p : ℕ) (rest : List ℕ) (x : Item) (n : ℕ) (a : Along is p₀ o i os many p rest)
-      (e : Some (meant x) ≡ slice_get is i) (s : n ≡ size_by_octets (meant x) os) where
+      (e : Some (meant x) ≡ slice_get is i) (ds : List ℕ) (d : ds ≡ os) (s : n ≡ size_by_octets (meant x) ds) where
     next : cut_from is [] p₀ o
         ≡ ask (leb n (length rest)) (no_to Q.ItemFits p)
         (ask (within (meant x) (take n rest)) (no_to Q.Limit p)
         (cut_from (drop (suc i) is) (a.seen ++ take n rest ∷ []) (p + n) (drop n rest)))
-    next = a.same ∙ next_item is i p a.seen os rest x n a.octets e s
+    next = a.same ∙ next_item is i p a.seen ds rest x n (d ∙ a.octets) e s
 
     pub along_short : length rest < n → refused (no_to Q.ItemFits p) ≡ surveyed (cut_from is [] p₀ o)
     unfolding surveyed

@@ -1,7 +1,7 @@
 -- What is known of a packet before an octet of it is put, and which question refuses it.
-use Rattle.std.proofs.Common.{◌≡◌, ℕ, ◌+◌, ◌<◌, ◌≤◌, Bool, true, false, ◌&&◌, eqb, leb, List, length, replicate, sym, refl, ap, ◌∙◌, ap₂, arith, length-append}
+use Rattle.std.proofs.Common.{◌≡◌, ℕ, ◌+◌, ◌<◌, ◌≤◌, Bool, true, false, ◌&&◌, eqb, leb, List, length, replicate, sym, ap, ◌∙◌, ap₂, arith, length-append}
 use lib.ListN.{length-replicate}
-use Rattle.std.proofs.lemmas.Bool.{and_parts, eq-eqb, ne_eqb, leb-true, le-leb, lt-leb}
+use Rattle.std.proofs.lemmas.Bool.{eq-eqb, ne_eqb, le-leb, lt-leb}
 use Rattle.base.specs.declared.refusal.Refusal.{Refusal}
 use Rattle.base.specs.declared.question.Question.TheVariants as Q
 use Rattle.base.specs.Answers.{refused, gives, ask, no_to}
@@ -10,7 +10,6 @@ use Rattle.layout.specs.Items.{Meaning}
 use Rattle.layout.specs.Questions.{lawful}
 use Rattle.frame.specs.declared.row.Row.{Row}
 use Rattle.frame.specs.Pieces.{joined}
-use Rattle.write.specs.Plans.{Planned}
 use Rattle.write.specs.Writing.{first_unfit, pieces_for, padding, plain_frame, packet_of, may_be_held, written}
 use Rattle.write.proofs.Rewriting.{length_packet}
 
@@ -76,20 +75,3 @@ module _ (o : ℕ) (m : Meaning) (rs : List Row) (inner : List ℕ) (room : ℕ)
         plan_gives y t =
             on t ∙ ask_yes _ _ _ (eq-eqb (first_unfit m rs) (length m.items) f)
             ∙ ask_yes _ _ _ (sym (y ∙ held t))
-
-        pub planned : true ≡ fits_in frame count room
-            → Planned m rs inner room (record { items = length m.items; size = size; frame = frame; count = count })
-        planned y =
-            let a = and_parts (leb frame 1018) _ (sym y) in
-            let b = and_parts (leb count 9216) (leb count room) a.1 in
-            record {
-              all = refl;
-              enough = h;
-              fit = f;
-              sized = s;
-              framed = framed;
-              counted = omega arith;
-              small = leb-true frame 1018 a.0;
-              most = leb-true count 9216 b.0;
-              room_enough = leb-true count room b.1;
-            }

@@ -1,8 +1,8 @@
 -- The octets of a record, put one item after another.
-use Rattle.std.proofs.Common.{◌≡◌, ℕ, zero, suc, ◌+◌, ◌-◌, ◌^◌, ◌<◌, ◌≤◌, Bool, true, false, cond, List, [], ◌∷◌, ◌++◌, length, get_or, take, drop, replicate, Some, sym, refl, ap, ◌∙◌, subst, ap₂, append_assoc, add-one, arith, length-append, length-take-le, take_all}
+use Rattle.std.proofs.Common.{◌≡◌, ℕ, zero, suc, ◌+◌, ◌-◌, ◌^◌, ◌<◌, ◌≤◌, Bool, true, false, cond, List, [], ◌∷◌, ◌++◌, length, get_or, take, drop, Some, sym, refl, ap, ◌∙◌, subst, ap₂, append_assoc, add-one, arith, length-append, length-take-le, take_all}
 use native.Mathlib.Nat.{sub-zero}
 use Rattle.std.specs.List.{slice_get}
-use Rattle.std.proofs.lemmas.List.{drop_all, drop-drop, append-nil}
+use Rattle.std.proofs.lemmas.List.{drop-drop}
 use Rattle.base.specs.Octets.{octets_of}
 use Rattle.base.proofs.Writing.{length-octets_of}
 use Rattle.layout.specs.Items.{ItemMeaning, Meaning, may_exist, item_at, no_item}
@@ -10,7 +10,7 @@ use Rattle.layout.proofs.Nths.{take_to_nth, lt_from_nth, get_or-from_nth}
 use Rattle.frame.specs.declared.row.Row.{Row}
 use Rattle.frame.specs.Pieces.{joined}
 use Rattle.frame.specs.Rows.{absent}
-use Rattle.write.specs.Writing.{rows_fit, first_unfit, piece_for, pieces_for, padding, plain_frame}
+use Rattle.write.specs.Writing.{rows_fit, first_unfit, piece_for, pieces_for}
 use Rattle.write.proofs.Checking.{nth-piece, length_pieces, joined_push}
 use Rattle.write.proofs.Fitting.{RowFit, each_row_fits, also_first_yes, value_small}
 
@@ -18,9 +18,6 @@ use Rattle.write.proofs.Fitting.{RowFit, each_row_fits, also_first_yes, value_sm
 pub record Put (is : List ItemMeaning) (rs : List Row) (i at : ℕ) (out : List ℕ) : Type 0 where
   pub far : at ≡ length (joined (take i (pieces_for is rs)))
   pub front : take at out ≡ joined (take i (pieces_for is rs))
-
-pub put_none : (is : List ItemMeaning) (rs : List Row) (out : List ℕ) → Put is rs 0 0 out
-put_none is rs out = record { far = refl; front = refl }
 
 take-front : {X : Type 0} (a b : List X) → take (length a) (a ++ b) ≡ a
 take-front [] b = refl
@@ -57,9 +54,9 @@ module _ (is : List ItemMeaning) (rs : List Row) (i at : ℕ) (out : List ℕ) (
   within_out h = omega (arith, far_next, joined-front (i + 1) (pieces_for is rs))
 
   pub put_more : (new behind : List ℕ) → length out ≡ length (joined (pieces_for is rs)) → new ≡ octets_of n r.value
-      → Put is rs (i + 1) (at + n) (take at out ++ (new ++ behind))
-  put_more new behind h w =
-      record {
+      → (j : ℕ) → j ≡ i + 1 → Put is rs j (at + n) (take at out ++ (new ++ behind))
+  put_more new behind h w j u =
+      subst (λ (a : ℕ). Put is rs a (at + n) (take at out ++ (new ++ behind))) (sym u) (record {
         far = far_next;
         front =
             ap (take (at + n)) (sym (append_assoc (take at out) new behind))
@@ -67,7 +64,7 @@ module _ (is : List ItemMeaning) (rs : List Row) (i at : ℕ) (out : List ℕ) (
             ∙ take-front (take at out ++ new) behind
             ∙ ap₂ ◌++◌ p.front (w ∙ sym piece_is)
             ∙ sym joined_next;
-      }
+      })
     where
       long : length (take at out ++ new) ≡ at + n
       long =
@@ -100,53 +97,9 @@ value_fits m rs many f i x r e q made =
     by true s u = value_small x.kind x r.value refl made (u.has s)
     by false s u = omega (arith, u.none s)
 
--- a frame is no shorter than its items
-pub frame_longer : (is : List ItemMeaning) (rs : List Row) (size : ℕ) (out : List ℕ) → size ≡ length (joined (pieces_for is rs))
-    → length out ≡ length (plain_frame is rs) + 1 → size ≤ length out
-frame_longer is rs size out e h =
-    omega (arith, length-append (joined (pieces_for is rs)) (replicate (padding (length (joined (pieces_for is rs)))) 0))
-
 drop-front : {X : Type 0} (a b : List X) → drop (length a) (a ++ b) ≡ b
 drop-front [] b = refl
 drop-front (x ∷ a) b = drop-front a b
-
--- items in front of what was there, and zeros behind them
-module _ (items old : List ℕ) (size pad : ℕ) (e : length items ≡ size) where
-  pub behind_long : length old ≡ pad → length (items ++ old) ≡ size + pad
-  behind_long h = length-append items old ∙ omega arith
-
-  pub zeros_behind : (fill : List ℕ) → length old ≡ pad
-      → fill ≡ replicate (length (take (length (items ++ old) - size) (drop size (items ++ old)))) 0
-      → take size (items ++ old) ++ (fill ++ drop (length (items ++ old) - size) (drop size (items ++ old))) ≡ items ++ replicate pad 0
-  zeros_behind fill h w =
-      ap₂ ◌++◌ front
-      (ap₂ ◌++◌ (w ∙ ap (λ (n : ℕ). replicate n 0) long) (drop_all (length (items ++ old) - size) (drop size (items ++ old)) (omega (arith, rest, much)))
-      ∙ append-nil (replicate pad 0))
-    where
-      front : take size (items ++ old) ≡ items
-      front = ap (λ (n : ℕ). take n (items ++ old)) (sym e) ∙ take-front items old
-
-      back : drop size (items ++ old) ≡ old
-      back = ap (λ (n : ℕ). drop n (items ++ old)) (sym e) ∙ drop-front items old
-
-      rest : length (drop size (items ++ old)) ≡ pad
-      rest = ap length back ∙ h
-
-      much : length (items ++ old) - size ≡ pad
-      much = omega (arith, behind_long h)
-
-      long : length (take (length (items ++ old) - size) (drop size (items ++ old))) ≡ pad
-      long = length-take-le (length (items ++ old) - size) (drop size (items ++ old)) (omega (arith, rest, much)) ∙ much
-
-pub one_zero_more : (n : ℕ) → replicate {A = ℕ} (n + 1) 0 ≡ replicate n 0 ++ 0 ∷ []
-one_zero_more n = ap (λ (k : ℕ). replicate {A = ℕ} k 0) (one n) ∙ by n
-  where
-    one : (n : ℕ) → n + 1 ≡ suc n
-    one n = omega arith
-
-    by : (n : ℕ) → replicate {A = ℕ} (suc n) 0 ≡ replicate n 0 ++ 0 ∷ []
-    by zero = refl
-    by (suc n) = ap (λ (l : List ℕ). 0 ∷ l) (by n)
 
 -- three parts put one behind another at the start of a buffer
 module _ (a b c old : List ℕ) (x y z : ℕ) (p : length a ≡ x) (q : length b ≡ y) where

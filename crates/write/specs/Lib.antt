@@ -1,4 +1,3 @@
 pub mod Writing
 pub mod Faults
 pub mod Laws
-pub mod Plans

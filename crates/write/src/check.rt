@@ -6,6 +6,7 @@ ghost use Rattle.write.specs.declared.fault.WriteFault.TheVariants.{Unfit as of-
 ghost use Rattle.write.specs.Writing.{flag_stands, may_have_as, row_fits, fit_at, first_unfit, pieces_for};
 
 use crate::fault::WriteFault;
+use crate::record::Record;
 use frame::row::Row;
 use layout::item::Item;
 use layout::kind::{Governor, Kind};
@@ -15,15 +16,10 @@ use layout::layout::Layout;
 fn has_flag(governor: Option<Governor>, rows: &[Row]) -> bool
     ensures { result ≡ flag_stands (governor_meaning governor) rows.now }
 {
-    let Some(g) = governor else {
-        return true;
-    };
-    let at = g.item as usize;
-    if at >= rows.len() {
-        return false;
-    }
-    let value = rows[at].value;
-    (value >> g.bit) % 2 == 1
+    governor.is_none_or(|g| {
+        let row = rows.get(usize::from(g.item));
+        row.is_some_and(|r| (r.value >> g.bit) % 2 == 1)
+    })
 }
 
 /// Whether an item may have a value: no spare bit, or within the limit.
@@ -51,11 +47,7 @@ fn is_fit(item: &Item, rows: &[Row], row: Row) -> bool
 fn is_fit_at(i: usize, pdu_type: u8, item: &Item, rows: &[Row], row: Row) -> bool
     ensures { result ≡ fit_at pdu_type i (meant item.now) rows.now row }
 {
-    if i == 0 {
-        is_fit(item, rows, row) && row.value / 16 == u64::from(pdu_type)
-    } else {
-        is_fit(item, rows, row)
-    }
+    is_fit(item, rows, row) && (i != 0 || row.value / 16 == u64::from(pdu_type))
 }
 
 /// How many octets an item takes by its row: none if it is absent.
@@ -63,31 +55,24 @@ pub(crate) fn octets_in(item: &Item, row: Row) -> usize
     ensures is { result ≡ (if row.present then (meant item.now).len else 0) }
     ensures few { result ≤ 8 }
 {
-    if row.present { item.length as usize } else { 0 }
+    if row.present {
+        usize::from(item.length)
+    } else {
+        0
+    }
 }
 
 /// Looks at each row in turn; answers how many octets the present items take.
-pub(crate) fn check_rows<L: Layout>(
-    layout: &L,
-    rows: &[Row],
-    count: usize,
-) -> Result<usize, WriteFault>
-    requires all { count ≡ length (L.meaning layout.now).items }
-    requires enough { count ≤ length rows.now }
-    requires few { count ≤ 64 }
-    ensures { MatchResult result (λ s. (first_unfit (L.meaning layout.now) rows.now ≡ count) × (s ≡ length (joined (pieces_for (L.meaning layout.now).items rows.now))) × (s ≤ 512)) (λ f. (f ≡ of-unfit (first_unfit (L.meaning layout.now) rows.now)) × (first_unfit (L.meaning layout.now) rows.now ≢ count)) }
+pub(crate) fn check_rows<L: Layout>(record: &Record<'_, L>) -> Result<usize, WriteFault>
+    ensures { MatchResult result (λ s. (first_unfit (L.meaning record.now.lawful.layout.now) record.now.rows.now ≡ record.now.lawful.count) × (s ≡ length (joined (pieces_for (L.meaning record.now.lawful.layout.now).items record.now.rows.now))) × (s ≤ 512)) (λ f. (f ≡ of-unfit (first_unfit (L.meaning record.now.lawful.layout.now) record.now.rows.now)) × (first_unfit (L.meaning record.now.lawful.layout.now) record.now.rows.now ≢ record.now.lawful.count)) }
 {
-    let pdu_type = layout.pdu_type();
+    let pdu_type = record.lawful.layout.pdu_type();
     let mut size = 0;
-    for i in 0..count {
-        let Some(item) = layout.item(i) else {
-            unreachable();
-        };
-        let row = rows[i];
-        if !is_fit_at(i, pdu_type, &item, rows, row) {
+    for (i, (item, row)) in record.lawful.items().zip(record.rows).enumerate() {
+        if !is_fit_at(i, pdu_type, &item, record.rows, *row) {
             return Err(WriteFault::Unfit { item: i });
         }
-        size += octets_in(&item, row);
+        size += octets_in(&item, *row);
     }
     Ok(size)
 }

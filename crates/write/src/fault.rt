@@ -34,7 +34,7 @@ impl From<WriteFault> for Refusal {
 
     fn from(fault: WriteFault) -> Refusal {
         let (question, place) = match fault {
-            WriteFault::Layout(cause) => return cause.into(),
+            WriteFault::Layout(f) => return f.into(),
             WriteFault::Rows { count } => (Question::TableRows, count),
             WriteFault::Unfit { item } => (Question::RowFits, item),
             WriteFault::Space { count } => (Question::Room, count),

@@ -4,4 +4,5 @@
 pub mod check;
 pub mod fault;
 pub mod put;
+pub mod record;
 pub mod write;

@@ -1,12 +1,13 @@
 //! Write.
-ghost use Rattle.std.specs.Prelude.{◌≡◌, ℕ, ◌&&◌, MatchResult, nat_le};
+ghost use Rattle.std.specs.Prelude.{◌≡◌, ℕ, ◌+◌, ◌≤◌, ◌&&◌, length, IfOk, MatchResult, nat_le};
 ghost use Rattle.base.specs.Answers.{refused, gives};
+ghost use Rattle.frame.specs.Pieces.{joined};
 ghost use Rattle.write.specs.Faults.{write_refusal};
-ghost use Rattle.write.specs.Plans.{Planned};
-ghost use Rattle.write.specs.Writing.{padding, plain_frame, packet_of, written};
+ghost use Rattle.write.specs.Writing.{first_unfit, pieces_for, padding, plain_frame, packet_of, written};
 
 use crate::check::check_rows;
 use crate::fault::WriteFault;
+use crate::record::Record;
 use frame::row::Row;
 use layout::lawful::lawful;
 use layout::layout::Layout;
@@ -18,14 +19,19 @@ const HEAD: usize = 13;
 /// The most octets of a frame: a unit count is one octet.
 const MOST_FRAME: usize = 1018;
 
-/// What is known of a packet before an octet of it is put: the number of items, how many octets they take, the frame's octets,
-/// and the packet's.
-#[derive(Clone, Copy)]
-pub(crate) struct Plan {
-    pub items: usize,
+/// What is known of a packet before an octet of it is put: the record, whose rows fit, how many octets its items take, the
+/// frame's octets, and the packet's.
+#[derive(Drop)]
+pub(crate) struct Plan<'a, L: Layout> {
+    pub record: Record<'a, L>,
     pub size: usize,
     pub frame: usize,
     pub count: usize,
+    ghost fit: { first_unfit (L.meaning record.lawful.layout.now) record.rows.now ≡ record.lawful.count },
+    ghost sized: { size ≡ length (joined (pieces_for (L.meaning record.lawful.layout.now).items record.rows.now)) },
+    ghost framed: { frame ≡ length (plain_frame (L.meaning record.lawful.layout.now).items record.rows.now) },
+    ghost small: { frame ≤ 1018 },
+    ghost most: { count ≤ 9216 },
 }
 
 /// The fewest octets that make a frame of so many octets 4n - 2 long.
@@ -43,27 +49,31 @@ fn may_hold(frame: usize, count: usize, room: usize) -> bool
 }
 
 /// Puts questions 1 to 4, 22 and 21.
-fn plan_packet<L: Layout>(
-    layout: &L,
-    rows: &[Row],
+fn plan_packet<'a, L: Layout>(
+    layout: &'a L,
+    rows: &'a [Row],
     inner: &[u8],
     room: usize,
-) -> Result<Plan, WriteFault>
-    ensures answer { MatchResult result (λ p. Planned (L.meaning layout.now) rows.now inner.now room p × ((t : ℕ) → written L.source (L.meaning layout.now) rows.now t inner.now room ≡ gives (packet_of t (plain_frame (L.meaning layout.now).items rows.now) inner.now))) (λ f. (t : ℕ) → written L.source (L.meaning layout.now) rows.now t inner.now room ≡ refused (write_refusal f)) }
+) -> Result<Plan<'a, L>, WriteFault>
+    ensures answer { MatchResult result (λ _. (t : ℕ) → written L.source (L.meaning layout.now) rows.now t inner.now room ≡ gives (packet_of t (plain_frame (L.meaning layout.now).items rows.now) inner.now)) (λ f. (t : ℕ) → written L.source (L.meaning layout.now) rows.now t inner.now room ≡ refused (write_refusal f)) }
+    ensures layout { IfOk result (λ p. p.record.lawful.layout.now ≡ layout.now) }
+    ensures rows { IfOk result (λ p. p.record.rows.now ≡ rows.now) }
+    ensures counted { IfOk result (λ p. p.count ≡ p.frame + length inner.now + 14) }
+    ensures held { IfOk result (λ p. p.count ≤ room) }
 {
-    lawful(layout)?;
-    let items = layout.count();
-    if items > rows.len() {
+    let lawful = lawful(layout)?;
+    if lawful.count > rows.len() {
         return Err(WriteFault::Rows { count: rows.len() });
     }
-    let size = check_rows(layout, rows, items)?;
+    let record = Record { lawful, rows };
+    let size = check_rows(&record)?;
     let frame = size + padding_of(size);
     let count = HEAD + 1 + frame + inner.len();
     if !may_hold(frame, count, room) {
         return Err(WriteFault::Space { count });
     }
     Ok(Plan {
-        items,
+        record,
         size,
         frame,
         count,

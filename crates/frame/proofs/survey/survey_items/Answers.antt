@@ -1,6 +1,4 @@
 use Rattle.std.proofs.Common.{ap, ◌∙◌, arith}
-use Rattle.layout.specs.Views.{meant}
-use Rattle.frame.specs.Surveys.{size_by_octets}
 use Rattle.frame.proofs.Along.{along_short, along_over, along_more, along_all}
 use Rattle.frame.proofs.survey.survey_items.Goals as goal
 
@@ -8,13 +6,13 @@ pub returns-in_default : goal.returns-in_default
 returns-in_default g c =
     let given = rw c.loop-item.invariant.same at c.in-Some.ensures.steps.1 in
     along_short _ _ _ _ _ _ _ _ c.in-Some.item _ c.loop-item.invariant.along given.item
-    (c.size_in-size.ensures.is ∙ ap (size_by_octets (meant c.in-Some.item)) c.deref.ensures.0) c.in_default.ensures.cases
+    _ c.deref.ensures.0 c.size_in-size.ensures.is c.in_default.ensures.cases
 
 pub returns-then-not-is_within : goal.returns-then-not-is_within
 returns-then-not-is_within g c =
     let given = rw c.loop-item.invariant.same at c.in-Some.ensures.steps.1 in
     along_over _ _ _ _ _ _ _ _ c.in-Some.item _ c.loop-item.invariant.along given.item
-    (c.size_in-size.ensures.is ∙ ap (size_by_octets (meant c.in-Some.item)) c.deref.ensures.0)
+    _ c.deref.ensures.0 c.size_in-size.ensures.is
     _ _ c.in-Some-split_at_checked.ensures.cases _ c.number-value.ensures.exact c.size_in-size.ensures.few c.if-not-is_within.ensures
 
 pub loop-item-preserved : goal.loop-item-preserved
@@ -27,7 +25,7 @@ loop-item-preserved g c =
       few = omega arith;
       along =
           along_more _ _ _ _ _ _ _ _ c.in-Some.item _ c.loop-item.invariant.along given.item
-          (c.size_in-size.ensures.is ∙ ap (size_by_octets (meant c.in-Some.item)) c.deref.ensures.0)
+          _ c.deref.ensures.0 c.size_in-size.ensures.is
           _ _ c.in-Some-split_at_checked.ensures.cases _ c.number-value.ensures.exact c.size_in-size.ensures.few c.if-not-is_within.ensures
           _ given.next _ c.push.ensures.items _ c.from-present.ensures;
     }

@@ -1,46 +1,54 @@
-use Rattle.std.proofs.Common.{◌≡◌, ℕ, length, get_or, ap, ◌∙◌, arith}
-use Rattle.layout.specs.Views.{meant}
-use Rattle.layout.proofs.Nths.{le_from_nth}
-use Rattle.frame.specs.declared.row.Row.{Row}
-use Rattle.frame.specs.Rows.{absent}
+use Rattle.std.proofs.Common.{◌≡◌, ℕ, ◌+◌, ◌≤◌, length, inl, sym, ap, ◌∙◌, ⊎_elim, arith}
+use Rattle.std.specs.Iterator.Adapters.{enumerate_source, zip_first}
 use Rattle.write.specs.declared.fault.WriteFault.TheVariants.{Unfit}
-use Rattle.write.specs.Writing.{first_unfit, fit_at}
-use Rattle.write.proofs.Checking.{nth_at, fitting_none, unfit_here, fitting_more, fitting_all}
+use Rattle.write.specs.Writing.{first_unfit}
+use Rattle.write.proofs.Checking.{nth_from_rest, rest_more, all_past, unfit_here, fitting_more, fitting_all}
 use Rattle.write.proofs.check.check_rows.Goals as goal
-
-pub loop-i-init : goal.loop-i-init
-loop-i-init g c = fitting_none (g.L.Layout.meaning c.args.layout.now) c.args.rows.now
-
-pub unreachable-requires : goal.unreachable-requires
-unreachable-requires g c =
-    let h = le_from_nth (g.L.Layout.meaning c.args.layout.now).items c.loop-i.i c.in_default.ensures in
-    omega (arith, c.requires.all)
 
 pub returns-then-not-is_fit_at : goal.returns-then-not-is_fit_at
 returns-then-not-is_fit_at g c =
-    let m = g.L.Layout.meaning c.args.layout.now in
-    let rs = c.args.rows.now in
-    let r : Row = get_or rs c.loop-i.i absent in
-    let u : c.loop-i.i ≡ first_unfit m rs =
-    unfit_here m rs c.loop-i.i c.loop-i.size c.loop-i.invariant (meant c.in-Some.item) r c.in-Some.ensures
-    (nth_at rs c.loop-i.i absent (omega (arith, c.requires.enough)))
-    (c.if-not-is_fit_at.ensures ∙ ap (λ (t : ℕ). fit_at t c.loop-i.i (meant c.in-Some.item) rs r) c.pdu_type-pdu_type.ensures.value) in
-    (ap Unfit u, λ e. let b : ⊥ = omega (arith, u, e, c.loop-i-test.true) in b)
+    let m = g.L.Layout.meaning c.args.record.now.lawful.layout.now in
+    let rs = c.args.record.now.rows.now in
+    let i = (zip_first (enumerate_source c.loop-i.i-iterator)).at in
+    let steps = c.in-Some.ensures.steps in
+    let given = rw c.loop-i.invariant.same at steps.0.0.1 in
+    let here = steps.1 ∙ c.loop-i.invariant.index in
+    let u : c.in-Some.i ≡ first_unfit m rs =
+    unfit_here m rs i _ c.loop-i.invariant.fitting _ _ given.item (nth_from_rest rs i _ _ (sym c.loop-i.invariant.rest ∙ steps.0.1))
+    _ _ c.pdu_type-pdu_type.ensures.value here c.if-not-is_fit_at.ensures in
+    (ap Unfit u, λ e. let b : ⊥ = omega (arith, u, e, here, given.within, c.args.record.now.lawful.counted) in b)
 
 pub loop-i-preserved : goal.loop-i-preserved
 loop-i-preserved g c =
-    let m = g.L.Layout.meaning c.args.layout.now in
-    let rs = c.args.rows.now in
-    let r : Row = get_or rs c.loop-i.i absent in
-    fitting_more m rs c.loop-i.i c.loop-i.size c.loop-i.invariant (meant c.in-Some.item) r c.in-Some.ensures
-    (nth_at rs c.loop-i.i absent (omega (arith, c.requires.enough)))
-    (c.if-not-is_fit_at.ensures ∙ ap (λ (t : ℕ). fit_at t c.loop-i.i (meant c.in-Some.item) rs r) c.pdu_type-pdu_type.ensures.value)
-    c.octets_in-size.result c.octets_in-size.ensures.is c.octets_in-size.ensures.few
+    let m = g.L.Layout.meaning c.args.record.now.lawful.layout.now in
+    let rs = c.args.record.now.rows.now in
+    let i = (zip_first (enumerate_source c.loop-i.i-iterator)).at in
+    let steps = c.in-Some.ensures.steps in
+    let given = rw c.loop-i.invariant.same at steps.0.0.1 in
+    let here = steps.1 ∙ c.loop-i.invariant.index in
+    let count = steps.0.0.0.1 ∙ c.loop-i.invariant.count in
+    let index = steps.2 ∙ ap (λ (k : ℕ). k + 1) c.loop-i.invariant.index ∙ sym given.next in
+    let rest = sym c.loop-i.invariant.rest ∙ steps.0.1 in
+    record {
+      can = ((tt, tt), tt, inl (omega (arith, count, index)));
+      ends = tt;
+      same = ap (λ r. r.now) steps.0.0.0.0 ∙ c.loop-i.invariant.same;
+      count = count;
+      index = index;
+      rest = rest_more rs i _ _ rest _ given.next;
+      fitting =
+          fitting_more m rs i _ c.loop-i.invariant.fitting _ _ given.item (nth_from_rest rs i _ _ rest) _ _ c.pdu_type-pdu_type.ensures.value here
+          c.if-not-is_fit_at.ensures _ c.octets_in-size.ensures.is c.octets_in-size.ensures.few _ given.next;
+    }
 
 pub returns : goal.returns
 returns g c =
-    let m = g.L.Layout.meaning c.args.layout.now in
-    let e : c.loop-i.i ≡ length m.items = omega (arith, c.requires.all) in
-    let f = fitting_all m c.args.rows.now c.loop-i.i c.loop-i.size c.loop-i.invariant e (omega (arith, c.requires.all, c.requires.enough)) in
-    let n : c.loop-i.i ≡ c.args.count = omega arith in
-    (f.0 ∙ n, f.1, omega (arith, c.loop-i.invariant.small, c.requires.few))
+    let m = g.L.Layout.meaning c.args.record.now.lawful.layout.now in
+    let rs = c.args.record.now.rows.now in
+    let s = enumerate_source c.loop-i.i-iterator in
+    let enough : length m.items ≤ length rs = omega (arith, c.args.record.now.enough, c.args.record.now.lawful.counted) in
+    let past : length m.items ≤ (zip_first s).at =
+    ⊎_elim (λ u. let left = rw c.loop-i.invariant.same at u.1.1 in left.past) (λ u. all_past m.items rs _ _ enough c.loop-i.invariant.rest u.1.0) c.in-None.ensures.steps.0 in
+    let within : (zip_first s).at ≤ length m.items = omega (arith, c.loop-i.invariant.count, (zip_first s).within, c.args.record.now.lawful.counted) in
+    let f = fitting_all m rs _ _ c.loop-i.invariant.fitting past within enough in
+    (f.0 ∙ sym c.args.record.now.lawful.counted, f.1, omega (arith, c.loop-i.invariant.fitting.small, within, c.args.record.now.lawful.counted, c.args.record.now.lawful.few))
