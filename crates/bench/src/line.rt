@@ -23,7 +23,7 @@ fn letter_and_fields(line: &[u8]) -> Option<(u8, &[u8])>
     }
 }
 
-/// The layout that a field names: `1` to `4`.
+/// The layout that a field names: `1` to `4`. These are the bench's own names, so that `FromStr` has others.
 fn layout_in(field: &[u8]) -> Option<Published>
     ensures { MatchOption result ((l : Published) → field.now ≢ layout_text l) (λ l. field.now ≡ layout_text l) }
 {

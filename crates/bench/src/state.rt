@@ -3,7 +3,8 @@ ghost use Rattle.std.specs.Prelude.{◌≡◌, ◌≤◌, length};
 
 use packet::octets::MOST_OCTETS;
 
-/// The packet is the first `count` octets of the buffer.
+/// The packet is the first `count` octets of the buffer. It is no Vec: the calls take a buffer and a count, and an edit
+/// may lengthen the packet in place.
 #[derive(Drop)]
 pub struct Bench {
     pub buffer: [u8; MOST_OCTETS],

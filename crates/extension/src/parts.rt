@@ -66,7 +66,7 @@ impl Additions {
         row.item = with_bits(row.item, bits);
     }
 
-    /// Names a governor's bit, below a list of `low` items or in an added item.
+    /// Names a governor's bit, below a list of `low` items or in an added item. Only the extension knows what lies below.
     fn name_governor(&mut self, low: usize, governor: Governor)
         requires few { low ≤ 64 }
         requires within { governor.item < low + array_vec_len self.old.rows }

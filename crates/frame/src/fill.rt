@@ -27,6 +27,7 @@ pub(crate) fn fill_rows<L: Layout>(
     for (i, item) in lawful.items().enumerate() {
         let size = size_in(&item, octets);
         let (piece, behind) = rest.split_at(size);
+        // By number: of rows after `iter_mut` a proof knows only how many there are.
         rows[i] = make_row(&item, at, size, number(piece));
         at += size;
         rest = behind;

@@ -20,7 +20,8 @@ use arrayvec::ArrayVec;
 pub const MOST_ITEMS: usize = 64;
 
 /// Whether a governor is an earlier bits octet, its bit named and not bits 7 to 4 of item 0; `earlier` has the masks of the
-/// items before, and that of a number is 0.
+/// items before, and that of a number is 0. What looks like it in frame and write asks octets and rows: one function over
+/// a closure would be longer than the three.
 fn governor_fits(governor: Option<Governor>, earlier: &[u8]) -> bool
     ensures { result ≡ governor_fits_masks (governor_meaning governor) earlier.now }
 {

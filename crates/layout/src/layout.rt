@@ -15,10 +15,12 @@ pub trait Layout {
     /// The origin number, as clauses name it.
     ghost source: { ℕ };
 
-    /// The origin: which kind of layout this is. 1 is published, 2 a file, 3 an extension.
+    /// The origin: which kind of layout this is. 1 is published, 2 a file, 3 an extension. It is a number and no enum, since anyone
+    /// may write a kind with an origin of its own.
     const ORIGIN: u8;
 
-    /// The origin, in a form that a contract can name.
+    /// The origin, in a form that a contract can name: a ghost member of the constant's name is not to be had yet in an
+    /// implementation with a lifetime parameter.
     fn origin_number(&self) -> u8
         ensures { result ≡ source };
 

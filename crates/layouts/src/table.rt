@@ -7,7 +7,7 @@ use layout::named::NamedLayout;
 use std::alloc::Global;
 use std::fmt::Write;
 
-/// A governor, as text.
+/// A governor, as text that a column pads, as `Display` of parts would not.
 fn governor_text(heap: Global, governor: Option<Governor>) -> anyhow::Result<String> {
     match governor {
         None => Ok(String::from_str(heap, "none")?),

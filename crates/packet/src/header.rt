@@ -7,6 +7,7 @@ pub enum Header<'a> {
         frame: &'a [u8],
         place: usize,
     },
+    // The type is a number and no enum: anyone may send a type that nobody here knows.
     Other {
         kind: u8,
         content: &'a [u8],

@@ -7,7 +7,8 @@ ghost use Rattle.pile.specs.Reasons.{Differs};
 use crate::fault::Part;
 use layout::item::Item;
 
-/// The first part in which an upper item is not like the lower: alike but for the mask, which keeps every lower bit.
+/// The first part in which an upper item is not like the lower: alike but for the mask, which keeps every lower bit. As a Result
+/// with `map_err` it was tried: the proof sees nothing of what a closure with captures answers.
 pub(crate) fn difference(lower: &Item, upper: &Item) -> Option<Part>
     ensures { MatchOption result (Alike (meant lower.now) (meant upper.now)) (λ p. Differs p (meant lower.now) (meant upper.now)) }
 {

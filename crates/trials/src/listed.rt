@@ -1,4 +1,4 @@
-//! A kind of layout for trials: a PDU type and the caller's items, in their order.
+//! A kind of layout for trials: a PDU type and the caller's items, in their order. It stands alone, as one that a reader writes.
 ghost use Rattle.std.specs.Prelude.{◌≤◌, map};
 ghost use Rattle.layout.specs.Views.{meant};
 

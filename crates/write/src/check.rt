@@ -12,7 +12,7 @@ use layout::item::Item;
 use layout::kind::{Governor, Kind};
 use layout::layout::Layout;
 
-/// Whether the flag that an item hangs on stands, by the rows.
+/// Whether the flag that an item hangs on stands, by the rows (frame asks octets instead, layout masks).
 fn has_flag(governor: Option<Governor>, rows: &[Row]) -> bool
     ensures { result ≡ flag_stands (governor_meaning governor) rows.now }
 {
