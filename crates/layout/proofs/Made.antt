@@ -1,10 +1,8 @@
 -- Items may exist: an item of the code by its invariant, a table's by one test over the whole table.
-use Rattle.std.proofs.Common.{◌≡◌, ℕ, zero, suc, ◌<◌, Bool, true, ◌&&◌, List, [], ◌∷◌, length, refl, arith}
+use Rattle.std.proofs.Common.{◌≡◌, ℕ, zero, suc, ◌<◌, Bool, true, ◌&&◌, List, [], ◌∷◌, length, arith}
 use Rattle.std.proofs.lemmas.Bool.Decides.{nat_tests}
 use Rattle.layout.specs.declared.item.Item.{Item}
-use Rattle.layout.specs.declared.kind.Kind.{Kind}
-use Rattle.layout.specs.declared.kind.Kind.TheVariants.{Bits, Number}
-use Rattle.layout.specs.Items.{ItemKind, bits_octet, a_number, ItemMeaning, may_exist, item_at}
+use Rattle.layout.specs.Items.{ItemMeaning, may_exist, item_at}
 use Rattle.layout.specs.Views.{meant}
 
 abbrev pub all_may_exist : List ItemMeaning → Bool
@@ -18,16 +16,8 @@ each_may_exist (i ∷ is) e (suc j) h = grind (arith, nat_tests, each_may_exist 
 
 -- what the code holds as an item may exist
 pub item_may_exist : (i : Item) → may_exist (meant i) ≡ true
-item_may_exist i = by i.kind refl
-  where
-    by : (k : Kind) → i.kind ≡ k → may_exist (meant i) ≡ true
-    by Bits e = grind (arith, nat_tests, i.bits e, i.octet)
-    by Number e = grind (arith, nat_tests, i.number e, i.some, i.most)
+item_may_exist i = grind (arith, nat_tests, i.bits, i.number, i.octet, i.some, i.most)
 
 -- the mask of an item that may exist is an octet
 pub mask_small : (i : ItemMeaning) → may_exist i ≡ true → i.mask < 256
-mask_small i m = by i.kind refl
-  where
-    by : (k : ItemKind) → i.kind ≡ k → i.mask < 256
-    by bits_octet e = grind (arith, nat_tests)
-    by a_number e = grind (arith, nat_tests)
+mask_small i m = grind (arith, nat_tests)
