@@ -26,13 +26,7 @@ bits_is a_number e = absurd (cc)
 
 hooked : (is : List ItemMeaning) (n : ℕ) (g : ItemGovernor) → governor_fits is n g ≡ true → Hooked is n g
 hooked is n ungoverned e = tt
-hooked is n (governed_by g b) e =
-    record {
-      early = grind (arith, nat_tests);
-      octet = grind (arith, nat_tests, bits_is);
-      named = grind (arith, nat_tests);
-      low = grind (arith, nat_tests);
-    }
+hooked is n (governed_by g b) e = grind (arith, nat_tests, bits_is)
 
 all_hooked : (is : List ItemMeaning) (n : ℕ) (rest : List ItemMeaning) → first_no (governors_fit is n rest) ≡ length rest
     → (j : ℕ) → j < length rest → Hooked is (n + j) (item_at rest j).governor

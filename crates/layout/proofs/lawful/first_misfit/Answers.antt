@@ -1,6 +1,5 @@
-use Rattle.std.proofs.Common.{ℕ, sym, ap, ◌∙◌, subst, arith}
+use Rattle.std.proofs.Common.{ap, ◌∙◌, arith}
 use Rattle.layout.specs.Masks.{governor_fits_masks}
-use Rattle.layout.specs.Misfits.{MisfitsFirst}
 use Rattle.layout.specs.Views.{governor_meaning}
 use Rattle.layout.proofs.Made.{item_may_exist}
 use Rattle.layout.proofs.Misfits.{misfit_here, fitted_more, fitted_all}
@@ -9,11 +8,9 @@ use Rattle.layout.proofs.lawful.first_misfit.Goals as goal
 pub returns-then-not-governor_fits : goal.returns-then-not-governor_fits
 returns-then-not-governor_fits g c =
     let given = rw c.loop-item.invariant.same at c.in-Some.ensures.steps.1 in
-    subst (λ (n : ℕ). MisfitsFirst (g.L.Layout.meaning c.args.items.layout.now).items n)
-    (sym (c.len.ensures.value ∙ c.loop-item.invariant.fitted.each))
-    (misfit_here _ _ _ _ c.loop-item.invariant.fitted given.item _
+    misfit_here _ _ _ _ c.loop-item.invariant.fitted given.item _
     (c.governor_fits.ensures ∙ ap (governor_fits_masks (governor_meaning c.in-Some.item.governor)) c.deref.ensures.0)
-    c.if-not-governor_fits.true)
+    c.if-not-governor_fits.true _ c.len.ensures.value
 
 pub loop-item-preserved : goal.loop-item-preserved
 loop-item-preserved g c =
