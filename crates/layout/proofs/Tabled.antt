@@ -23,3 +23,6 @@ published_lawful Ul19 o = refl
 
 pub tables_stand : TablesStand
 tables_stand p = (published_made p, published_lawful p)
+
+-- the same for a tactic, part by part
+pub ruleset published_stands = (published_made, published_lawful)

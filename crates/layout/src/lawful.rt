@@ -100,7 +100,7 @@ impl<'a, L: Layout> LawfulLayout<'a, L> {
 }
 
 /// Puts questions 1 to 3 to a layout. The published ones pass.
-#[tactic(auto, using(crate::proofs::Tabled::published_made, crate::proofs::Tabled::published_lawful, base::proofs::Asking::ask_yes, base::proofs::Asking::ask_no, std::proofs::lemmas::Bool::Decides::nat_tests), unfolding(crate::specs::Questions::lawful))]
+#[tactic(auto, using(crate::proofs::Passing::asking, crate::proofs::Tabled::published_stands), unfolding(crate::specs::Questions::lawful))]
 pub fn lawful<L: Layout>(layout: &L) -> Result<LawfulLayout<'_, L>, LayoutFault>
     ensures answer { answer_of (λ _. tt) layout_refusal result ≡ passes L.source (L.meaning layout.now) }
     ensures same { IfOk result (λ l. l.layout.now ≡ layout.now) }
