@@ -36,7 +36,7 @@ fn governor_fits(governor: Option<Governor>, earlier: &[u8]) -> bool
 }
 
 /// The first item whose governor does not fit, if there is one.
-#[tactic(auto, using(crate::proofs::Misfits::fitted_start))]
+#[tactic(auto, using(crate::proofs::Misfits::fitted_start, crate::proofs::Misfits::fitted_all))]
 fn first_misfit<L: Layout>(items: Items<'_, L>) -> Option<usize>
     requires all { items.at ≡ 0 }
     requires few { items.count ≤ 64 }

@@ -1,16 +1,12 @@
-use Rattle.std.proofs.Common.{ap, ◌∙◌, arith}
-use Rattle.layout.specs.Masks.{governor_fits_masks}
-use Rattle.layout.specs.Views.{governor_meaning}
+use Rattle.std.proofs.Common.{arith}
 use Rattle.layout.proofs.Made.{item_may_exist}
-use Rattle.layout.proofs.Misfits.{misfit_here, fitted_more, fitted_all}
+use Rattle.layout.proofs.Misfits.{misfit_here, fitted_more}
 use Rattle.layout.proofs.lawful.first_misfit.Goals as goal
 
 pub returns-then-not-governor_fits : goal.returns-then-not-governor_fits
 returns-then-not-governor_fits g c =
     let given = rw c.loop-item.invariant.same at c.in-Some.ensures.steps.1 in
-    misfit_here _ _ _ _ c.loop-item.invariant.fitted given.item _
-    (c.governor_fits.ensures ∙ ap (governor_fits_masks (governor_meaning c.in-Some.item.governor)) c.deref.ensures.0)
-    c.if-not-governor_fits.true _ c.len.ensures.value
+    misfit_here _ _ _ _ c.loop-item.invariant.fitted given.item _ (cc) c.if-not-governor_fits.true _ c.len.ensures.value
 
 pub loop-item-preserved : goal.loop-item-preserved
 loop-item-preserved g c =
@@ -18,15 +14,9 @@ loop-item-preserved g c =
     record {
       can = tt;
       ends = tt;
-      same = ap (λ r. r.now) c.in-Some.ensures.steps.0.0 ∙ c.loop-item.invariant.same;
+      same = cc;
       few = omega arith;
       fitted =
-          fitted_more _ _ _ _ c.loop-item.invariant.fitted given.item _
-          (c.governor_fits.ensures ∙ ap (governor_fits_masks (governor_meaning c.in-Some.item.governor)) c.deref.ensures.0)
+          fitted_more _ _ _ _ c.loop-item.invariant.fitted given.item _ (cc)
           c.if-not-governor_fits.false (item_may_exist c.in-Some.item) _ given.next _ c.push.ensures.items;
     }
-
-pub returns : goal.returns
-returns g c =
-    let left = rw c.loop-item.invariant.same at c.in-None.ensures.steps.1 in
-    fitted_all _ _ _ c.loop-item.invariant.fitted left.past
