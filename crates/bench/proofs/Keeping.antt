@@ -1,53 +1,34 @@
 -- The start of a line as it is kept, and lines answered one after another.
-use Rattle.std.proofs.Common.{◌≡◌, ℕ, zero, suc, ◌+◌, ◌-◌, ◌<◌, ◌≤◌, min, true, false, eqb, List, [], ◌∷◌, ◌++◌, length, take, sym, refl, ap, ◌∙◌, subst, ap₂, ⊎_elim, append_assoc, append-nil, Result, arith}
+use Rattle.std.proofs.Common.{◌≡◌, ℕ, zero, suc, ◌+◌, ◌<◌, ◌≤◌, min, true, false, eqb, List, [], ◌∷◌, ◌++◌, length, take, sym, refl, ap, ◌∙◌, subst, ⊎_elim, append_assoc, append-nil, Result, Ok, Err, IsOk, OnOk, ◌↔◌, arith}
 use lib.Seq.{take-append-add}
-use Rattle.std.proofs.lemmas.List.{take_all, take-append-le, length-take}
-use Rattle.std.proofs.lemmas.Bool.{cases_lt, eqb-true, eqb-false}
+use Rattle.std.proofs.lemmas.List.{take_all, take_min, take-append-le, length-take, length-append}
+use Rattle.std.proofs.lemmas.Bool.{cases_lt, eqb-false}
 use Rattle.layout.specs.declared.table.Published.{Published}
 use Rattle.layout.specs.declared.table.Published.TheVariants.{Dl16, Ul161, Ul163, Ul19}
-use Rattle.frame.specs.declared.row.Row.{Row}
-use Rattle.base.specs.declared.refusal.Refusal.{Refusal}
-use Rattle.bench.specs.declared.reply.Reply.{Reply}
-use Rattle.bench.specs.declared.state.Bench.{Bench}
 use Rattle.bench.specs.Inputs.{NoEnd}
 use Rattle.bench.specs.Lines.{layout_text, IsNoCommand}
-use Rattle.bench.specs.Replies.{Answered}
-use Rattle.bench.specs.Sessions.{Desk, AnswersLine, AnswersLines, ended, EachNoEnd, kept, last_line}
+use Rattle.bench.specs.declared.desk.Desk.{Desk}
+use Rattle.bench.specs.Sessions.{AnswersLine, AnswersLines, ended, EachNoEnd, kept, last_line}
 use Rattle.bench.proofs.Pairs.{length_pairs}
 
-take_of_append : (n : ℕ) (l q : List ℕ) → take n (l ++ q) ≡ take n l ++ take (n - length l) q
-take_of_append n l q = ⊎_elim short long (cases_lt (length l) n)
-  where
-    short : length l < n → take n (l ++ q) ≡ take n l ++ take (n - length l) q
-    short h =
-        let e : n ≡ length l + (n - length l) = omega arith in
-        ap (λ (k : ℕ). take k (l ++ q)) e
-        ∙ take-append-add l q (n - length l)
-        ∙ ap (λ (x : List ℕ). x ++ take (n - length l) q) (sym (take_all n l (omega arith)))
+-- one part more of a line: as much as there is space for
+pub kept_part : {E : Type 0} (items part new : List ℕ) (space n : ℕ) (r : Result (Unit {0}) E) → space + length items ≡ 18435 → n ≡ min space (length part)
+    → (IsOk r ↔ (length items + length (take n part) ≤ 18435)) → OnOk r (new ≡ items ++ take n part) → new ≡ kept (items ++ part)
+kept_part items part new space n (Ok _) e m v k =
+    let s : length items + space ≡ 18435 = omega arith in
+    k ∙ rw (m, take_min) (sym (take-append-add items part space) ∙ ap (λ (j : ℕ). take j (items ++ part)) s)
+kept_part items part new space n (Err _) e m v k = let q : false ≡ true = v.1 (omega (arith, length-take n part)) in cc
 
-    long : n ≤ length l → take n (l ++ q) ≡ take n l ++ take (n - length l) q
+pub kept_kept : (l p : List ℕ) → kept (kept l ++ p) ≡ kept (l ++ p)
+kept_kept l p = ⊎_elim short long (cases_lt (length l) 18435)
+  where
+    short : length l < 18435 → kept (kept l ++ p) ≡ kept (l ++ p)
+    short h = ap (λ (x : List ℕ). kept (x ++ p)) (take_all 18435 l (omega arith))
+
+    long : 18435 ≤ length l → kept (kept l ++ p) ≡ kept (l ++ p)
     long h =
-        let e : n - length l ≡ 0 = omega arith in
-        take-append-le n l q h ∙ sym (ap (λ (k : ℕ). take n l ++ take k q) e ∙ append-nil (take n l))
-
-take_few : (k : ℕ) (q : List ℕ) → take (min (length q) k) q ≡ take k q
-take_few k q = ⊎_elim short long (cases_lt k (length q))
-  where
-    short : k < length q → take (min (length q) k) q ≡ take k q
-    short h = let e : min (length q) k ≡ k = omega arith in ap (λ (n : ℕ). take n q) e
-
-    long : length q ≤ k → take (min (length q) k) q ≡ take k q
-    long h = let e : min (length q) k ≡ length q = omega arith in ap (λ (n : ℕ). take n q) e ∙ take_all (length q) q (omega arith) ∙ sym (take_all k q h)
-
--- one part more of a line
-pub kept_more : (items part l : List ℕ) (len fits : ℕ) → items ≡ kept l → len ≡ length items → fits ≡ min (length part) (18435 - len)
-    → items ++ take (fits - 0) part ≡ kept (l ++ part)
-kept_more items part l len fits e n f =
-    let m : 18435 - len ≡ 18435 - length l = omega (arith, n, ap length e, length-take 18435 l) in
-    let z : fits - 0 ≡ min (length part) (18435 - length l) = omega (arith, f, m) in
-    ap₂ (λ (x : List ℕ) (k : ℕ). x ++ take k part) e z
-    ∙ ap (λ (x : List ℕ). kept l ++ x) (take_few (18435 - length l) part)
-    ∙ sym (take_of_append 18435 l part)
+        let e : length (kept l) ≡ 18435 = omega (arith, length-take 18435 l) in
+        take-append-le 18435 (kept l) p (omega arith) ∙ take_all 18435 (kept l) (omega arith) ∙ sym (take-append-le 18435 l p h)
 
 -- a line longer than any command is none, and neither is what is kept of it
 length_layout : (p : Published) → length (layout_text p) ≡ 1
@@ -62,24 +43,31 @@ none_if_long l h = record {
   no_read_line = λ p q. let e = ap length q in omega (arith, e, length_layout p, h);
 }
 
-answered_kept : (l : List ℕ) (b a : Bench) (t u : List Row) (r : Result Reply Refusal) → Answered (kept l) b a t u r → Answered l b a t u r
-answered_kept l b a t u r h = ⊎_elim short long (cases_lt (length l) 18435)
-  where
-    short : length l < 18435 → Answered l b a t u r
-    short k = subst (λ (x : List ℕ). Answered x b a t u r) (take_all 18435 l (omega arith)) h
+-- what is kept of the start of a line tells as much of the whole line
+module _ (l p : List ℕ) (d e : Desk) (a : AnswersLine (kept l ++ p) d e) where
+  pub answers_kept : AnswersLine (l ++ p) d e
+  answers_kept = ⊎_elim short long (cases_lt (length l) 18435)
+    where
+      short : length l < 18435 → AnswersLine (l ++ p) d e
+      short h = subst (λ (x : List ℕ). AnswersLine (x ++ p) d e) (take_all 18435 l (omega arith)) a
 
-    long : 18435 ≤ length l → Answered l b a t u r
-    long k =
-        let n = none_if_long l (omega arith) in
-        record {
-          packet = λ os p. absurd (n.no_packet_line os p);
-          read = λ p q. absurd (n.no_read_line p q);
-          other = λ _. h.other (none_if_long (kept l) (omega (arith, length-take 18435 l)));
-        }
+      long : 18435 ≤ length l → AnswersLine (l ++ p) d e
+      long h =
+          let n = none_if_long (l ++ p) (omega (arith, length-append l p)) in
+          record {
+            reply = a.reply;
+            answered = record {
+              packet = λ os h. absurd (n.no_packet_line os h);
+              read = λ q h. absurd (n.no_read_line q h);
+              other = λ _. a.answered.other (none_if_long (kept l ++ p) (omega (arith, length-append (kept l) p, length-take 18435 l)));
+            };
+            text = a.text;
+          }
 
-none_kept : (l : List ℕ) → 0 ≡ length (kept l) → l ≡ []
-none_kept [] e = refl
-none_kept (x ∷ xs) e = absurd (let b : ⊥ = omega arith in b)
+pub answers_whole : (l x : List ℕ) (d e : Desk) → x ≡ kept l → AnswersLine x d e → AnswersLine l d e
+answers_whole l x d e q a =
+    let P : List ℕ → Type 0 = λ y. AnswersLine y d e in
+    subst P (append-nil l) (answers_kept l [] d e (subst P (q ∙ sym (append-nil (kept l))) a))
 
 -- lines one after another
 pub answers_push : (ls : List (List ℕ)) (l : List ℕ) (d m e : Desk) → AnswersLines ls d m → AnswersLine l m e → AnswersLines (ls ++ l ∷ []) d e
@@ -102,24 +90,6 @@ no_end_append [] b h k i l e = k i l e
 no_end_append (x ∷ a) b h k zero l e = h 0 (omega arith) e
 no_end_append (x ∷ a) b h k (suc i) l e = no_end_append a b (λ j m f. h (suc j) (omega arith) f) k i (omega arith) e
 
--- a vector of no length holds nothing of a line, so the line is empty; one of some length holds some
-pub empty_kept : (items l : List ℕ) (n : ℕ) → n ≡ length items → true ≡ eqb n 0 → items ≡ kept l → (l ≡ []) × (items ≡ [])
-empty_kept items l n e t h =
-    let z : n ≡ 0 = eqb-true n 0 (sym t) in
-    let q : 0 ≡ length (kept l) = sym z ∙ e ∙ ap length h in
-    let r : l ≡ [] = none_kept l q in
-    (r, h ∙ ap kept r)
-
-pub last_answers : (l items : List ℕ) (n : ℕ) (d e : Desk) → n ≡ length items → false ≡ eqb n 0 → items ≡ kept l
-    → AnswersLine l d e → AnswersLines (last_line l) d e
-last_answers [] items n d e en t h a = absurd (eqb-false n 0 (sym t) (en ∙ ap length h))
-last_answers (x ∷ xs) items n d e en t h a = (e, a, refl)
-
-pub answered_line : (x l : List ℕ) (b a : Bench) (t u : List Row) (r : Result Reply Refusal) → x ≡ kept l → Answered x b a t u r → Answered l b a t u r
-answered_line x l b a t u r e h = answered_kept l b a t u r (subst (λ (y : List ℕ). Answered y b a t u r) e h)
-
-pub answers_begun : (l part : List ℕ) (d e : Desk) → l ≡ [] → AnswersLine part d e → AnswersLine (l ++ part) d e
-answers_begun l part d e z a = subst (λ (x : List ℕ). AnswersLine (x ++ part) d e) (sym z) a
-
-pub answers_from : (l : List ℕ) (m d e : Desk) → m ≡ d → AnswersLine l m e → AnswersLine l d e
-answers_from l m d e z a = subst (λ (x : Desk). AnswersLine l x e) z a
+pub last_answers : (l items : List ℕ) (d e : Desk) → false ≡ eqb (length items) 0 → items ≡ kept l → AnswersLine items d e → AnswersLines (last_line l) d e
+last_answers [] items d e t h a = absurd (eqb-false (length items) 0 (sym t) (ap length h))
+last_answers (x ∷ xs) items d e t h a = (e, answers_whole (x ∷ xs) items d e h a, refl)

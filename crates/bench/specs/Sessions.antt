@@ -1,28 +1,18 @@
 -- A session: lines answered one after another, in whatever parts their octets come.
-use Rattle.std.specs.Prelude.{◌≡◌, ℕ, List, [], ◌∷◌, ◌++◌, take, vec_items, string_bytes, Result}
+use Rattle.std.specs.Prelude.{◌≡◌, ℕ, List, [], ◌∷◌, ◌++◌, take, string_bytes, Result}
 use Rattle.base.specs.declared.refusal.Refusal.{Refusal}
-use Rattle.frame.specs.declared.row.Row.{Row}
+use Rattle.bench.specs.declared.desk.Desk.{Desk}
 use Rattle.bench.specs.declared.reply.Reply.{Reply}
 use Rattle.bench.specs.declared.session.Session.{Session}
-use Rattle.bench.specs.declared.state.Bench.{Bench}
 use Rattle.bench.specs.Inputs.{NoEnd}
 use Rattle.bench.specs.Replies.{Answered}
 use Rattle.bench.specs.Texts.{reply_text}
-
--- what a session holds: the bench, its table, and the text of its answers
-pub record Desk : Type 0 where
-  pub bench : Bench
-  pub rows : List Row
-  pub text : List ℕ
-
-abbrev pub desk_of : Session → Desk
-desk_of s = record { bench = s.bench; rows = s.rows; text = string_bytes s.text }
 
 -- a line answered
 pub record AnswersLine (line : List ℕ) (d e : Desk) : Type 0 where
   pub reply : Result Reply Refusal
   pub answered : Answered line d.bench e.bench d.rows e.rows reply
-  pub text : e.text ≡ d.text ++ reply_text reply e.rows
+  pub text : string_bytes e.text ≡ string_bytes d.text ++ reply_text reply e.rows
 
 -- lines answered one after another
 abbrev pub AnswersLines : List (List ℕ) → Desk → Desk → Type 0
@@ -49,8 +39,8 @@ pub record Fed (start input : List ℕ) (s t : Session) : Type 0 where
   pub octets : start ++ input ≡ ended lines ++ next
   pub whole : EachNoEnd lines
   pub open_line : NoEnd next
-  pub keeps : vec_items t.line ≡ kept next
-  pub answers : AnswersLines lines (desk_of s) (desk_of t)
+  pub keeps : t.line.items ≡ kept next
+  pub answers : AnswersLines lines s.desk t.desk
 
 -- the last line, if it has begun
 abbrev pub last_line : List ℕ → List (List ℕ)

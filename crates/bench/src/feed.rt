@@ -1,76 +1,86 @@
 //! Lines put together from the parts in which input comes, and answered.
 ghost use Rattle.std.specs.Prelude.{◌≡◌, ℕ, List, [], ◌++◌, string_bytes, OnOk};
 ghost use Rattle.bench.specs.Inputs.{NoEnd};
-ghost use Rattle.bench.specs.Sessions.{desk_of, AnswersLine, AnswersLines, kept, last_line, Fed};
+ghost use Rattle.bench.specs.Sessions.{AnswersLine, AnswersLines, kept, last_line, Fed};
 
+use crate::desk::Desk;
 use crate::input::next_line;
 use crate::print::push_reply;
-use crate::session::Session;
+use crate::session::{MOST_KEPT, Session};
 use crate::state::Bench;
+use arrayvec::ArrayVec;
 use frame::row::Row;
 use layout::lawful::MOST_ITEMS;
-use packet::octets::MOST_OCTETS;
-use std::alloc::Global;
+use std::alloc::{AllocError, Global};
 
-/// The octets of the longest command. Of a longer line one octet more is kept, which is enough to see that it is none.
-const LONGEST_LINE: usize = 2 + 2 * MOST_OCTETS;
-
-impl Session {
-    /// A session at its start: no packet, no line begun, no text.
-    pub(crate) fn new(heap: Global) -> Session
-        ensures { (result.bench.count ≡ 0) × (result.line.items ≡ []) × (string_bytes result.text ≡ []) }
+impl Desk {
+    /// A desk at its start: no packet, no text.
+    fn new(heap: Global) -> Desk
+        ensures packet { result.bench.count ≡ 0 }
+        ensures text { string_bytes result.text ≡ [] }
     {
-        Session {
+        Desk {
             bench: Bench::new(),
             rows: [Row::default(); MOST_ITEMS],
-            line: Vec::new(heap),
             text: String::new(heap),
         }
     }
 
-    /// Answers a whole line.
-    fn answer(&mut self, line: &[u8]) -> anyhow::Result<()>
-        ensures answers { OnOk result (AnswersLine line.now (desk_of self.old) (desk_of self.new)) }
-        ensures line { self.new.line.items ≡ self.old.line.items }
+    /// Answers a line.
+    fn answer(&mut self, line: &[u8]) -> Result<(), AllocError>
+        ensures { OnOk result (AnswersLine line.now self.old self.new) }
     {
         let reply = self.bench.answer(line, &mut self.rows);
-        push_reply(&mut self.text, reply, &self.rows)?;
-        Ok(())
+        push_reply(&mut self.text, reply, &self.rows)
     }
+}
 
-    /// Adds to the start of a line.
-    fn keep(&mut self, part: &[u8]) -> anyhow::Result<()>
-        ensures { OnOk result ((desk_of self.new ≡ desk_of self.old) × ((l : List ℕ) → self.old.line.items ≡ kept l → self.new.line.items ≡ kept (l ++ part.now))) }
+/// Adds to the start of a line as much as is kept of it.
+fn keep(line: &mut ArrayVec<u8, MOST_KEPT>, part: &[u8])
+    ensures { line.new.items ≡ kept (line.old.items ++ part.now) }
+{
+    let fits = line.remaining_capacity().min(part.len());
+    // So many fit.
+    line.try_extend_from_slice(&part[..fits]).ok();
+}
+
+impl Session {
+    /// A session at its start: no packet, no line begun, no text.
+    pub(crate) fn new(heap: Global) -> Session
+        ensures packet { result.desk.bench.count ≡ 0 }
+        ensures text { string_bytes result.desk.text ≡ [] }
+        ensures line { result.line.items ≡ [] }
     {
-        let space = (LONGEST_LINE + 1).saturating_sub(self.line.len());
-        let fits = part.len().min(space);
-        self.line.extend_from_slice(&part[0..fits])?;
-        Ok(())
+        Session {
+            desk: Desk::new(heap),
+            line: ArrayVec::new(),
+        }
     }
 
     /// Answers the line that was kept.
-    fn end_kept(&mut self) -> anyhow::Result<()>
-        ensures { (l : List ℕ) → self.old.line.items ≡ kept l → OnOk result (AnswersLine l (desk_of self.old) (desk_of self.new) × (self.new.line.items ≡ [])) }
+    fn end_kept(&mut self) -> Result<(), AllocError>
+        ensures answers { OnOk result (AnswersLine self.old.line.items self.old.desk self.new.desk) }
+        ensures line { OnOk result (self.new.line.items ≡ []) }
     {
-        let reply = self.bench.answer(&self.line, &mut self.rows);
+        self.desk.answer(&self.line)?;
         self.line.clear();
-        push_reply(&mut self.text, reply, &self.rows)?;
         Ok(())
     }
 
     /// Answers the line that ends with `part`.
-    fn end_line(&mut self, part: &[u8]) -> anyhow::Result<()>
-        ensures { (l : List ℕ) → self.old.line.items ≡ kept l → OnOk result (AnswersLine (l ++ part.now) (desk_of self.old) (desk_of self.new) × (self.new.line.items ≡ [])) }
+    fn end_line(&mut self, part: &[u8]) -> Result<(), AllocError>
+        ensures answers { OnOk result (AnswersLine (self.old.line.items ++ part.now) self.old.desk self.new.desk) }
+        ensures line { OnOk result (self.new.line.items ≡ []) }
     {
         if self.line.is_empty() {
-            return self.answer(part);
+            return self.desk.answer(part);
         }
-        self.keep(part)?;
+        keep(&mut self.line, part);
         self.end_kept()
     }
 
     /// Answers each line that ends in a part of the input, and keeps the start of the next.
-    pub(crate) fn feed(&mut self, input: &[u8]) -> anyhow::Result<()>
+    pub(crate) fn feed(&mut self, input: &[u8]) -> Result<(), AllocError>
         ensures { (l : List ℕ) → NoEnd l → self.old.line.items ≡ kept l → OnOk result (Fed l input.now self.old self.new) }
     {
         let mut rest = input;
@@ -78,12 +88,13 @@ impl Session {
             self.end_line(line)?;
             rest = behind;
         }
-        self.keep(rest)
+        keep(&mut self.line, rest);
+        Ok(())
     }
 
     /// Answers the line that has begun, if one has: the last line may lack its end.
-    pub(crate) fn finish(&mut self) -> anyhow::Result<()>
-        ensures { (l : List ℕ) → self.old.line.items ≡ kept l → OnOk result (AnswersLines (last_line l) (desk_of self.old) (desk_of self.new)) }
+    pub(crate) fn finish(&mut self) -> Result<(), AllocError>
+        ensures { (l : List ℕ) → self.old.line.items ≡ kept l → OnOk result (AnswersLines (last_line l) self.old.desk self.new.desk) }
     {
         if self.line.is_empty() {
             return Ok(());

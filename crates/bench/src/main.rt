@@ -2,6 +2,7 @@
 #![tactic(auto)]
 
 mod answer;
+mod desk;
 mod digits;
 mod feed;
 mod input;
@@ -29,11 +30,11 @@ fn run(rt: &HostRuntime) -> anyhow::Result<()> {
             break;
         }
         session.feed(&chunk[0..count])?;
-        output.write_all(session.text.as_bytes())?;
-        session.text.clear();
+        output.write_all(session.desk.text.as_bytes())?;
+        session.desk.text.clear();
     }
     session.finish()?;
-    output.write_all(session.text.as_bytes())?;
+    output.write_all(session.desk.text.as_bytes())?;
     Ok(())
 }
 

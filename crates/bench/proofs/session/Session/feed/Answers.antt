@@ -1,5 +1,4 @@
-use Rattle.std.proofs.Common.{◌∷◌, length, ap, arith, length-append}
-use Rattle.std.proofs.lemmas.Result.{IfOk-weaker}
+use Rattle.std.proofs.Common.{◌∷◌, length, ap, refl, arith, length-append}
 use Rattle.bench.proofs.Feeding.{feeding_none, feeding_more, fed}
 use Rattle.bench.proofs.session.Session.feed.Goals as goal
 
@@ -15,13 +14,7 @@ pub loop-line-preserved : goal.loop-line-preserved
 loop-line-preserved c =
     λ start n k.
     let f = c.loop-line.invariant start n k in
-    feeding_more start _ _ _ _ f _ _ _ c.in-Some.ensures.0 c.in-Some.ensures.1
-    (c.in_ok-end_line.ensures f.begun f.keeps)
+    feeding_more start _ _ _ _ f _ _ _ c.in-Some.ensures.0 c.in-Some.ensures.1 c.in_ok-end_line.ensures.answers c.in_ok-end_line.ensures.line
 
 pub returns : goal.returns
-returns c =
-    λ start n k.
-    let f = c.loop-line.invariant start n k in
-    IfOk-weaker c.keep.result _ _
-    (λ _ a. fed start _ _ _ _ f _ c.in_default.ensures a.0 (a.1 f.begun f.keeps))
-    c.keep.ensures
+returns c = λ start n k. fed start _ _ _ _ (c.loop-line.invariant start n k) _ c.in_default.ensures refl c.keep.ensures
