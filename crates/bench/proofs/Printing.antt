@@ -1,7 +1,6 @@
 -- Rows printed one after another.
-use Rattle.std.proofs.Common.{◌≡◌, ℕ, suc, ◌+◌, ◌<◌, ◌≤◌, min, List, ◌++◌, length, get_or, take, drop, ⊎_elim, arith, sym, ap, ◌∙◌, ap₂, append_assoc, append-nil, add-one}
-use Rattle.std.proofs.lemmas.List.{drop_all, drop_more, take_all}
-use Rattle.std.proofs.lemmas.Bool.{cases_lt}
+use Rattle.std.proofs.Common.{◌≡◌, ℕ, suc, ◌+◌, ◌<◌, ◌≤◌, List, ◌++◌, length, get_or, drop, sym, ap, ◌∙◌, ap₂, append_assoc, append-nil, add-one}
+use Rattle.std.proofs.lemmas.List.{drop_all, drop_more}
 use Rattle.layout.specs.Items.{name_at}
 use Rattle.frame.specs.declared.row.Row.{Row}
 use Rattle.frame.specs.Rows.{absent}
@@ -20,13 +19,3 @@ module _ (ns : List (List ℕ)) (rs : List Row) (i : ℕ) (all so_far : List ℕ
 
   pub rows_all : length rs ≤ i → so_far ≡ all
   rows_all h = sym (e ∙ ap (λ (l : List Row). so_far ++ rows_text ns i l) (drop_all i rs h) ∙ append-nil so_far)
-
--- as many rows as there are items, or all
-pub take_few : (n k s : ℕ) (rs : List Row) → k ≡ n → s ≡ min k (length rs) → take s rs ≡ take n rs
-take_few n k s rs e m = ⊎_elim short long (cases_lt n (length rs))
-  where
-    short : n < length rs → take s rs ≡ take n rs
-    short h = let q : s ≡ n = omega arith in ap (λ (j : ℕ). take j rs) q
-
-    long : length rs ≤ n → take s rs ≡ take n rs
-    long h = take_all s rs (omega arith) ∙ sym (take_all n rs h)

@@ -36,6 +36,7 @@ impl Desk {
 }
 
 /// Adds to the start of a line as much as is kept of it.
+#[tactic(auto, using(crate::proofs::Keeping::kept_part))]
 fn keep(line: &mut ArrayVec<u8, MOST_KEPT>, part: &[u8])
     ensures { line.new.items ≡ kept (line.old.items ++ part.now) }
 {
@@ -80,6 +81,7 @@ impl Session {
     }
 
     /// Answers each line that ends in a part of the input, and keeps the start of the next.
+    #[tactic(auto, using(crate::proofs::Feeding::feeding_none))]
     pub(crate) fn feed(&mut self, input: &[u8]) -> Result<(), AllocError>
         ensures { (l : List ℕ) → NoEnd l → self.old.line.items ≡ kept l → OnOk result (Fed l input.now self.old self.new) }
     {

@@ -59,6 +59,7 @@ fn are_pairs(field: &[u8]) -> bool
 }
 
 /// The command that a line is, if it is one.
+#[tactic(auto, using(crate::proofs::Texts::packet_told))]
 pub fn parse(line: &[u8]) -> Option<Command<'_>>
     ensures { MatchOption result (IsNoCommand line.now) (λ c. IsCommand line.now c) }
 {

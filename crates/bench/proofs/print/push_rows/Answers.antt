@@ -1,8 +1,7 @@
-use Rattle.std.proofs.Common.{List, ◌++◌, get_or, take, string_bytes, refl, ap, ◌∙◌}
-use Rattle.frame.specs.declared.row.Row.{Row}
+use Rattle.std.proofs.Common.{get_or, take, string_bytes, refl}
+use Rattle.std.proofs.lemmas.List.{take_min}
 use Rattle.frame.specs.Rows.{absent}
-use Rattle.bench.specs.Texts.{rows_text}
-use Rattle.bench.proofs.Printing.{rows_more, rows_all, take_few}
+use Rattle.bench.proofs.Printing.{rows_more, rows_all}
 use Rattle.bench.proofs.print.push_rows.Goals as goal
 
 pub loop-i-preserved : goal.loop-i-preserved
@@ -13,6 +12,5 @@ loop-i-preserved g c =
 
 pub returns : goal.returns
 returns g c =
-    rows_all _ _ c.loop-i.i _ _ c.loop-i.invariant c.loop-i-test.false
-    ∙ ap (λ (rs : List Row). string_bytes c.args.out.now ++ rows_text (g.N.NamedLayout.names c.args.layout.now) 0 rs)
-    (take_few _ _ _ _ c.count.ensures c.min-shown.ensures)
+    let e = rows_all _ _ c.loop-i.i _ _ c.loop-i.invariant c.loop-i-test.false in
+    rw (c.min-shown.ensures, c.count.ensures, take_min) at e

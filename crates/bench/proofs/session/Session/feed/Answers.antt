@@ -1,9 +1,6 @@
 use Rattle.std.proofs.Common.{◌∷◌, length, ap, refl, arith, length-append}
-use Rattle.bench.proofs.Feeding.{feeding_none, feeding_more, fed}
+use Rattle.bench.proofs.Feeding.{feeding_more, fed}
 use Rattle.bench.proofs.session.Session.feed.Goals as goal
-
-pub loop-line-init : goal.loop-line-init
-loop-line-init c = λ start n k. feeding_none start c.args.input.now c.args.self.now n k
 
 pub loop-line-smaller : goal.loop-line-smaller
 loop-line-smaller c =
