@@ -1,5 +1,5 @@
 -- Question 3 item by item, by the masks of the items before.
-use Rattle.std.proofs.Common.{◌≡◌, ℕ, suc, ◌+◌, ◌<◌, ◌≤◌, Bool, true, false, List, [], ◌∷◌, ◌++◌, map, length, get_or, take, drop, Some, refl, ap, ◌∙◌, add-one, arith, length-take, length-take-le, get_or-take, below_none, below_more}
+use Rattle.std.proofs.Common.{◌≡◌, ℕ, suc, ◌+◌, ◌<◌, ◌≤◌, Bool, true, false, List, [], ◌∷◌, ◌++◌, map, length, take, drop, Some, refl, ap, ◌∙◌, add-one, arith, length-take, length-take-le, get_or-take, below_none, below_more}
 use native.Mathlib.Nat.{zero-div}
 use lib.ListN.{length-map}
 use Rattle.std.specs.List.{slice_get}
@@ -25,10 +25,7 @@ pub masks_fit : (is : List ItemMeaning) (n : ℕ) (g : ItemGovernor) → MadeBel
     → governor_fits_masks g (map (λ i. i.mask) (take n is)) ≡ governor_fits is n g
 masks_fit is n ungoverned m h = refl
 masks_fit is n (governed_by g b) m h =
-    let ms = map (λ (i : ItemMeaning). i.mask) (take n is) in
-    let l : length ms ≡ n = grind (arith, length-map, length-take-le) in
-    let e : g < n → get_or ms g 0 ≡ (item_at is g).mask = λ lt. get_or-map (λ (i : ItemMeaning). i.mask) (take n is) g no_item 0 (omega (arith, length-take-le n is h)) ∙ ap (λ (i : ItemMeaning). i.mask) (get_or-take n is g no_item lt) in
-    grind (arith, nat_tests, is_bits_if_named (item_at is g) b, m g, e)
+    grind (arith, nat_tests, is_bits_if_named (item_at is g) b, m g, get_or-take n is g no_item, length-map, length-take-le n is h, get_or-map (λ (i : ItemMeaning). i.mask) (take n is) g no_item 0)
 
 -- the first i items may exist and fit, and ms has their masks
 pub record Fitted (is : List ItemMeaning) (i : ℕ) (ms : List ℕ) : Type 0 where
