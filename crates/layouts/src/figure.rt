@@ -12,7 +12,7 @@ const RULE: &str = "+-----+-----+-----+-----+-----+-----+-----+-----+";
 /// Prints the cell of a bit: a flag has the name of the first item that it governs.
 fn draw_bit<N: NamedLayout>(rt: &HostRuntime, layout: &N, role: Role) -> anyhow::Result<()> {
     match role {
-        Role::PduType => print!(rt; "")?,
+        Role::PduType => {}
         Role::Value => print!(rt; "|value")?,
         Role::Spare => print!(rt; "|spare")?,
         Role::Flag { item } => {

@@ -20,12 +20,7 @@ fn is_bit(governor: Option<Governor>, item: usize, bit: u8) -> bool
 fn first_governed<L: Layout>(layout: &L, item: usize, bit: u8) -> Option<usize>
     ensures { MatchOption result (NoneBelow (L.meaning layout.now).items item bit (length (L.meaning layout.now).items)) (λ j. (j < length (L.meaning layout.now).items) × Governs (L.meaning layout.now).items item bit j × NoneBelow (L.meaning layout.now).items item bit j) }
 {
-    for (place, governed) in Items::new(layout).enumerate() {
-        if is_bit(governed.governor, item, bit) {
-            return Some(place);
-        }
-    }
-    None
+    Items::new(layout).position(|governed| is_bit(governed.governor, item, bit))
 }
 
 /// The role of a bit of item number `item`, which has this mask.
