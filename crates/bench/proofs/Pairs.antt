@@ -1,43 +1,18 @@
 -- Hexadecimal pairs: the tests of the code tell them, and each pair writes one octet.
-use Rattle.std.proofs.Common.{◌≡◌, ℕ, ◌+◌, ◌-◌, ◌*◌, ◌/◌, ◌%◌, ◌<◌, ◌≤◌, Bool, true, cond, ◌&&◌, leb, List, [], ◌∷◌, length, sym, refl, ap, ◌∙◌, ap₂, ⊎_elim, arith}
-use Rattle.std.proofs.lemmas.Bool.{leb-true, le-leb, lt-ltb, le-ltb, eq-eqb, and_parts, and_from, or_cases, or_left, or_right, cases_lt}
+use Rattle.std.proofs.Common.{◌≡◌, ℕ, ◌+◌, ◌-◌, ◌*◌, ◌/◌, ◌%◌, ◌<◌, ◌≤◌, true, cond, ltb, List, [], ◌∷◌, length, refl, ap, ◌∙◌, ap₂, arith}
+use Rattle.std.proofs.lemmas.Bool.{and_parts, and_from}
+use Rattle.std.proofs.lemmas.Bool.Decides.{nat_tests}
 use Rattle.base.specs.Octets.{Octets}
 use Rattle.bench.specs.Lines.{hex_digit, hex_pairs}
 use Rattle.bench.specs.Tests.{is_hex_digit, are_hex_digits, are_hex_pairs}
 
 -- a digit below 16 is written and told
 pub is_digit : (d : ℕ) → d < 16 → is_hex_digit (hex_digit d) ≡ true
-is_digit d h = ⊎_elim low high (cases_lt d 10)
-  where
-    low : d < 10 → is_hex_digit (hex_digit d) ≡ true
-    low l =
-        ap (λ (b : Bool). is_hex_digit (cond b (48 + d) (55 + d))) (lt-ltb d 10 l)
-        ∙ or_left (leb 48 (48 + d) && leb (48 + d) 57) _ (and_from _ _ (le-leb 48 (48 + d) (omega arith)) (le-leb (48 + d) 57 (omega arith)))
-
-    high : 10 ≤ d → is_hex_digit (hex_digit d) ≡ true
-    high l =
-        ap (λ (b : Bool). is_hex_digit (cond b (48 + d) (55 + d))) (le-ltb d 10 l)
-        ∙ or_right (leb 48 (55 + d) && leb (55 + d) 57) _ (and_from _ _ (le-leb 65 (55 + d) (omega arith)) (le-leb (55 + d) 70 (omega arith)))
+is_digit d h = grind (arith, nat_tests)
 
 -- what is told to be a digit is one
 pub digit_of : (c : ℕ) → is_hex_digit c ≡ true → (d : ℕ) × (d < 16) × (c ≡ hex_digit d)
-digit_of c e = ⊎_elim low high (or_cases (leb 48 c && leb c 57) (leb 65 c && leb c 70) e)
-  where
-    low : (leb 48 c && leb c 57) ≡ true → (d : ℕ) × (d < 16) × (c ≡ hex_digit d)
-    low e =
-        let p = and_parts (leb 48 c) (leb c 57) e in
-        let a = leb-true 48 c p.0 in
-        let b = leb-true c 57 p.1 in
-        let q : c ≡ 48 + (c - 48) = omega arith in
-        (c - 48, omega arith, q ∙ sym (ap (λ (b : Bool). cond b (48 + (c - 48)) (55 + (c - 48))) (lt-ltb (c - 48) 10 (omega arith))))
-
-    high : (leb 65 c && leb c 70) ≡ true → (d : ℕ) × (d < 16) × (c ≡ hex_digit d)
-    high e =
-        let p = and_parts (leb 65 c) (leb c 70) e in
-        let a = leb-true 65 c p.0 in
-        let b = leb-true c 70 p.1 in
-        let q : c ≡ 55 + (c - 55) = omega arith in
-        (c - 55, omega arith, q ∙ sym (ap (λ (b : Bool). cond b (48 + (c - 55)) (55 + (c - 55))) (le-ltb (c - 55) 10 (omega arith))))
+digit_of c e = (cond (ltb c 65) (c - 48) (c - 55), grind (arith, nat_tests), grind (arith, nat_tests))
 
 -- pairs of digits write octets
 pub record Written (cs : List ℕ) : Type 0 where
@@ -80,6 +55,5 @@ digits_of (o ∷ os) h =
 pub are_pairs : (os : List ℕ) → Octets os → 1 ≤ length os → length os ≤ 9216 → are_hex_pairs (hex_pairs os) ≡ true
 are_pairs os h some most =
     let l = length_pairs os in
-    and_from _ _ (lt-ltb 0 (length (hex_pairs os)) (omega arith))
-    (and_from _ _ (eq-eqb (length (hex_pairs os) % 2) 0 (omega arith))
-    (and_from _ _ (le-leb (length (hex_pairs os)) 18432 (omega arith)) (digits_of os h)))
+    let d = digits_of os h in
+    grind (arith, nat_tests)
