@@ -1,6 +1,7 @@
 -- Octets read back from the pairs that they are written as.
 use Rattle.std.proofs.Common.{◌≡◌, ℕ, ◌+◌, ◌-◌, ◌/◌, ◌%◌, ◌==◌, ◌<◌, ◌≤◌, true, false, ◌*◌, List, [], ◌∷◌, ◌++◌, length, get_or, take, drop, Ok, Err, Result, MatchResult, length-take, sym, refl, ap, ◌∙◌, subst, ap₂, ⊎_elim, arith}
-use Rattle.std.proofs.lemmas.Bool.{cases_lt, eq-eqb, ne_eqb}
+use Rattle.std.proofs.lemmas.Bool.Decides.{nat_tests}
+use Rattle.std.proofs.lemmas.Bool.{cases_lt}
 use Rattle.base.proofs.Bits.{below8}
 use Rattle.base.specs.Octets.{Octets}
 use Rattle.hex.specs.declared.error.FromHexError.{FromHexError}
@@ -36,8 +37,8 @@ decode_sized-pairs os h n e =
     let d : decode_pairs 0 (hex_pairs os) ≡ Ok os =
     ap (decode_pairs 0) (sym (pairs_encode os h)) ∙ decode_pairs-encode_with upper_digits IsDigits-upper_digits 0 os (octets_at os h) in
     let l = length_pairs os in
-    let even : (length (hex_pairs os) % 2 == 1) ≡ false = ne_eqb (length (hex_pairs os) % 2) 1 (λ q. absurd (omega (arith, q, l))) in
-    let half : (length (hex_pairs os) / 2 == n) ≡ true = eq-eqb (length (hex_pairs os) / 2) n (omega (arith, l, e)) in
+    let even : (length (hex_pairs os) % 2 == 1) ≡ false = grind (arith, nat_tests) in
+    let half : (length (hex_pairs os) / 2 == n) ≡ true = grind (arith, nat_tests) in
     rw (even, half) d
 
 -- a buffer to whose start pairs are decoded

@@ -1,6 +1,5 @@
 -- A part of the input, midway: the lines so far are answered.
-use Rattle.std.proofs.Common.{◌≡◌, ℕ, List, [], ◌∷◌, ◌++◌, sym, refl, ap, ◌∙◌, subst, append_assoc, arith}
-use Rattle.bench.specs.declared.desk.Desk.{Desk}
+use Rattle.std.proofs.Common.{◌≡◌, ℕ, List, [], ◌∷◌, ◌++◌, refl, ap, ◌∙◌, subst, append_assoc, arith}
 use Rattle.bench.specs.declared.session.Session.{Session}
 use Rattle.bench.specs.Inputs.{NoEnd}
 use Rattle.bench.specs.Sessions.{AnswersLine, AnswersLines, ended, EachNoEnd, kept, Fed}
@@ -25,10 +24,7 @@ module _ (start input : List ℕ) (s t : Session) (rest : List ℕ) (f : Feeding
   feeding_more u line behind e n a k = record {
     lines = f.lines ++ (f.begun ++ line) ∷ [];
     begun = [];
-    octets =
-        f.octets
-        ∙ ap (λ (x : List ℕ). ended f.lines ++ x) (ap (λ (x : List ℕ). f.begun ++ x) e ∙ sym (append_assoc f.begun line (10 ∷ behind)))
-        ∙ sym (ended_push f.lines (f.begun ++ line) behind);
+    octets = rw (f.octets, e, ended_push, append_assoc);
     whole = each_push f.lines (f.begun ++ line) f.whole (no_end_append f.begun line f.open_line n);
     open_line = λ i h z. absurd (let b : ⊥ = omega arith in b);
     keeps = k;
@@ -44,5 +40,5 @@ module _ (start input : List ℕ) (s t : Session) (rest : List ℕ) (f : Feeding
     whole = f.whole;
     open_line = no_end_append f.begun rest f.open_line n;
     keeps = k ∙ ap (λ (x : List ℕ). kept (x ++ rest)) f.keeps ∙ kept_kept f.begun rest;
-    answers = subst (λ (x : Desk). AnswersLines f.lines s.desk x) (sym d) f.answers;
+    answers = rw d f.answers;
   }

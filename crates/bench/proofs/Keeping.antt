@@ -76,10 +76,7 @@ answers_push (k ∷ ls) l d m e a s = (a.0, a.1, answers_push ls l a.0 m e a.2 s
 
 pub ended_push : (ls : List (List ℕ)) (l rest : List ℕ) → ended (ls ++ l ∷ []) ++ rest ≡ ended ls ++ (l ++ 10 ∷ rest)
 ended_push [] l rest = append_assoc l (10 ∷ []) rest
-ended_push (k ∷ ls) l rest =
-    append_assoc k (10 ∷ ended (ls ++ l ∷ [])) rest
-    ∙ ap (λ (x : List ℕ). k ++ 10 ∷ x) (ended_push ls l rest)
-    ∙ sym (append_assoc k (10 ∷ ended ls) (l ++ 10 ∷ rest))
+ended_push (k ∷ ls) l rest = simp (append_assoc, ended_push ls l rest)
 
 pub each_push : (ls : List (List ℕ)) (l : List ℕ) → EachNoEnd ls → NoEnd l → EachNoEnd (ls ++ l ∷ [])
 each_push [] l h n = (n, tt)
