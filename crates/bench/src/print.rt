@@ -18,7 +18,7 @@ fn push_row(out: &mut String, name: Name, row: Row) -> Result<(), AllocError>
         return Ok(());
     }
     let value = row.value;
-    write!(out, "{name} {value}\n")
+    writeln!(out, "{name} {value}")
 }
 
 /// Adds the line of a refusal.
@@ -27,17 +27,18 @@ fn push_no(out: &mut String, refusal: Refusal) -> Result<(), AllocError>
 {
     let number = refusal.question.number();
     let place = refusal.place;
-    write!(out, "NO {number} {place}\n")
+    writeln!(out, "NO {number} {place}")
 }
 
 /// Adds the line that ends an accepted answer.
 fn push_ok(out: &mut String, count: usize) -> Result<(), AllocError>
     ensures { OnOk result (string_bytes out.new ≡ string_bytes out.old ++ ok_text count) }
 {
-    write!(out, "OK {count}\n")
+    writeln!(out, "OK {count}")
 }
 
 /// Adds a line for each present item of the first rows, one row for each item of the layout.
+#[tactic(auto, using(crate::proofs::Printing::rows_more))]
 fn push_rows<N: NamedLayout>(out: &mut String, layout: &N, rows: &[Row]) -> Result<(), AllocError>
     ensures { OnOk result (string_bytes out.new ≡ string_bytes out.old ++ rows_text (N.names layout.now) 0 (take (length (N.meaning layout.now).items) rows.now)) }
 {
