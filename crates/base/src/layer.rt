@@ -1,6 +1,7 @@
 //! The layers: what questions are put to.
-ghost use Rattle.std.specs.Prelude.{◌≡◌};
+ghost use Rattle.std.specs.Prelude.{◌≡◌, Some};
 ghost use Rattle.base.specs.Answers.{layer_number};
+ghost use Rattle.base.specs.Words.{layer_words};
 
 use std::fmt;
 
@@ -25,13 +26,15 @@ impl Layer {
 
 /// The layer's name.
 impl fmt::Display for Layer {
+    ghost output = { λ layer. Some (layer_words layer) };
+
     fn fmt<W: fmt::Write>(&self, f: &mut fmt::Formatter<W>) -> fmt::Result {
-        match self {
-            Layer::Layout => write!(f, "layout"),
-            Layer::Packet => write!(f, "packet"),
-            Layer::Frame => write!(f, "frame"),
-            Layer::Call => write!(f, "call"),
-            Layer::Bench => write!(f, "bench"),
-        }
+        f.write_str(match self {
+            Layer::Layout => "layout",
+            Layer::Packet => "packet",
+            Layer::Frame => "frame",
+            Layer::Call => "call",
+            Layer::Bench => "bench",
+        })
     }
 }

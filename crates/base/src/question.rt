@@ -1,11 +1,13 @@
 //! The questions. A refusal is a no to one of them.
-ghost use Rattle.std.specs.Prelude.{◌≡◌};
+ghost use Rattle.std.specs.Prelude.{◌≡◌, Some};
 ghost use Rattle.base.specs.Answers.{question_number, question_layer};
+ghost use Rattle.base.specs.Words.{question_words};
 
 use crate::layer::Layer;
 use std::fmt;
 
-/// A question that a call puts. Its number stands in refusals, and stays whatever questions are added.
+/// A question that a call puts; printed, it says what is asked. People know it by its number, which stays whatever questions
+/// are added.
 #[derive(Clone, Copy, PartialEq, Eq, Debug)]
 pub enum Question {
     ItemCount = 1,
@@ -69,8 +71,10 @@ impl Question {
 
 /// The question in words.
 impl fmt::Display for Question {
+    ghost output = { λ question. Some (question_words question) };
+
     fn fmt<W: fmt::Write>(&self, f: &mut fmt::Formatter<W>) -> fmt::Result {
-        let words = match self {
+        f.write_str(match self {
             Question::ItemCount => "has the layout 1 to 64 items?",
             Question::FirstItem => "is item 0 an ungoverned bits octet with bits 7 to 4 named?",
             Question::Governors =>
@@ -99,7 +103,6 @@ impl fmt::Display for Question {
             Question::SpareBits =>
                 "are the bits to be named not none, and all spare in a bits octet below?",
             Question::Command => "is the line a command?",
-        };
-        write!(f, "{words}")
+        })
     }
 }

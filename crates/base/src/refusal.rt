@@ -1,4 +1,7 @@
 //! A refusal: the question whose answer was no, the place, and the origin of the layout asked.
+ghost use Rattle.std.specs.Prelude.{Some};
+ghost use Rattle.base.specs.Words.{refusal_words};
+
 use crate::question::Question;
 use std::fmt;
 
@@ -13,6 +16,8 @@ pub struct Refusal {
 
 /// A refusal for people: its number, its layer, its place, and what was asked.
 impl fmt::Display for Refusal {
+    ghost output = { λ refusal. Some (refusal_words refusal) };
+
     fn fmt<W: fmt::Write>(&self, f: &mut fmt::Formatter<W>) -> fmt::Result {
         let question = self.question;
         let number = question.number();

@@ -41,7 +41,7 @@ fn keep(line: &mut ArrayVec<u8, MOST_KEPT>, part: &[u8])
     ensures { line.new.items ≡ kept (line.old.items ++ part.now) }
 {
     let fits = line.remaining_capacity().min(part.len());
-    // So many fit.
+    // It cannot fail: no more is taken than there is room for.
     line.try_extend_from_slice(&part[..fits]).ok();
 }
 
@@ -63,9 +63,9 @@ impl Session {
         ensures answers { OnOk result (AnswersLine self.old.line.items self.old.desk self.new.desk) }
         ensures line { OnOk result (self.new.line.items ≡ []) }
     {
-        self.desk.answer(&self.line)?;
+        let answered = self.desk.answer(&self.line);
         self.line.clear();
-        Ok(())
+        answered
     }
 
     /// Answers the line that ends with `part`.

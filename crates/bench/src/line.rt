@@ -23,7 +23,7 @@ fn letter_and_fields(line: &[u8]) -> Option<(u8, &[u8])>
     }
 }
 
-/// The layout that a field names: `1` to `4`. These are the bench's own names, so that `FromStr` has others.
+/// The layout that a field names: `1` to `4`. These are the bench's own names; `FromStr` reads the layouts' names.
 fn layout_in(field: &[u8]) -> Option<Published>
     ensures { MatchOption result ((l : Published) → field.now ≢ layout_text l) (λ l. field.now ≡ layout_text l) }
 {
@@ -64,6 +64,7 @@ pub fn parse(line: &[u8]) -> Option<Command<'_>>
     ensures { MatchOption result (IsNoCommand line.now) (λ c. IsCommand line.now c) }
 {
     let (letter, fields) = letter_and_fields(line)?;
+    // A letter is read into a command here, and nothing is done by it: no closures are wanted.
     match letter {
         b'p' => are_pairs(fields).then_some(Command::Packet { digits: fields }),
         b'r' => layout_in(fields).map(|layout| Command::Read { layout }),

@@ -17,7 +17,8 @@ pub enum BuildFault {
     Entry { item: usize },
     /// 26: is there space for one more item, 16 added and 64 in all? The number of all items.
     Space { count: usize },
-    /// 27: is the governor an earlier bits octet, its bit spare below or in an added item? The governor's item, or 255.
+    /// 27: is the governor an earlier bits octet, its bit spare below or in an added item? The governor's item as the entry has it, 255
+    /// for none: it is the place.
     Governor { governor: u8 },
     /// 28: are the bits to be named not none, and all spare in a bits octet below?
     Bits { item: usize },

@@ -7,8 +7,8 @@ use crate::row::Row;
 use layout::item::Item;
 use layout::kind::{Governor, Kind};
 
-/// Whether an item with this governor is present (write asks rows instead, layout masks); `octets` has the last octet of each item before it, or of every item, 0 for
-/// an absent one.
+/// Whether an item with this governor is present; `octets` has the last octet of each item before it at least, 0 for an absent
+/// one. (Write asks rows instead, layout masks.)
 fn is_present(governor: Option<Governor>, octets: &[u8]) -> bool
     ensures { result ≡ present_by_octets (governor_meaning governor) octets.now }
 {

@@ -8,7 +8,8 @@ use layout::table::Published;
 use layoutfile::file::FileLayout;
 use std::fs;
 
-/// Runs a session over a layout, at most three levels of it; answers the lines behind it.
+/// Runs a session over a layout, at most three levels of it; answers the lines behind it. That these are no more than before, here and
+/// in the two that hand them on, is why the loop over sessions ends.
 fn run_over<'a, N: NamedLayout + Drop>(
     rt: &HostRuntime,
     lines: &'a [String],

@@ -12,6 +12,7 @@ use layout::named::NamedLayout;
 
 /// Prints an item: its number, name, kind, governor (255 and 0 for none), length, mask and limit.
 fn show_item(rt: &HostRuntime, i: usize, name: Name, item: &Item) -> anyhow::Result<()> {
+    // The numbers of a script's lines, which no `From` has: not every governor of an `Item` has them.
     let kind = item.kind as u8;
     let (g, bit) = item
         .governor
@@ -35,7 +36,7 @@ pub(crate) fn show_items<N: NamedLayout>(rt: &HostRuntime, layout: &N) -> anyhow
     Ok(())
 }
 
-/// A packet of which the only header is a container with a frame, given in hexadecimal pairs.
+/// A packet of which the only header is a container with a frame, given in hexadecimal pairs (see the trials' `packet`).
 fn packet(rt: &HostRuntime, digits: &str) -> anyhow::Result<Vec<u8>> {
     let frame = hex::decode(rt.alloc(), digits)?;
     let units = ((frame.len().saturating_add(2) / 4) % 256) as u8;

@@ -25,7 +25,7 @@ fn octet(line: &str, place: usize) -> anyhow::Result<u8> {
 /// The entry of a line: kind, the governor's item and bit, length, mask, name, limit.
 fn entry(line: &str) -> anyhow::Result<RawEntry> {
     let name = word(line, 6).as_bytes();
-    let [first, second, third] = [0usize, 1, 2].map(|i| name.get(i).copied().unwrap_or(0));
+    let letters = [0usize, 1, 2].map(|i| name.get(i).copied().unwrap_or(0));
     let limit = line.split(' ').nth(7).unwrap_or("0").parse::<u64>()?;
     let item = RawItem {
         kind: octet(line, 1)?,
@@ -35,13 +35,13 @@ fn entry(line: &str) -> anyhow::Result<RawEntry> {
         mask: octet(line, 5)?,
         limit,
     };
-    let name = Name {
-        letters: [first, second, third],
-    };
-    Ok(RawEntry { item, name })
+    Ok(RawEntry {
+        item,
+        name: Name { letters },
+    })
 }
 
-/// The step that a line is, or none where it ends the level.
+/// The step that a line is, or none where it ends the level. No `FromStr`: a step borrows from its line.
 pub(crate) fn step_in(line: &str) -> anyhow::Result<Option<Step<'_>>> {
     let step = match word(line, 0) {
         "add" => Step::Add(entry(line)?),

@@ -19,11 +19,12 @@ pub struct RawEntry {
 fn is_name_octet(octet: u8) -> bool
     ensures { result ≡ is_name_octet octet }
 {
-    (b'A' <= octet && octet <= b'Z') || (b'0' <= octet && octet <= b'9')
+    matches!(octet, b'A'..=b'Z' | b'0'..=b'9')
 }
 
 impl RawEntry {
-    /// Question 25: the entry's item, or none where the raw values are no item or the name is not three capitals or digits.
+    /// Question 25: the entry's item, or none where the raw values are no item or the name is not three capitals or digits. A method
+    /// and no `TryFrom`, since it is a question that calls put.
     pub fn accept(&self) -> Option<Item>
         ensures { option_map meant result ≡ entry_accepted self.now }
     {

@@ -5,7 +5,7 @@ ghost use Rattle.layout.specs.Faults.{layout_refusal};
 use base::question::Question;
 use base::refusal::Refusal;
 
-/// A no to one of the questions 1 to 3.
+/// A no to one of the questions 1 to 3. The origin is a number, as `Layout::ORIGIN` is.
 #[derive(Clone, Copy, PartialEq, Eq, Debug)]
 pub enum LayoutFault {
     /// 1: has the layout 1 to 64 items?

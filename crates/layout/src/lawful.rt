@@ -85,7 +85,7 @@ pub struct LawfulLayout<'a, L: Layout> {
 }
 
 impl<'a, L: Layout> LawfulLayout<'a, L> {
-    /// The items, one after another.
+    /// The items, one after another. Unlike `Items::new`, it asks the layout nothing.
     pub fn items(&self) -> Items<'a, L>
         ensures layout { result.layout.now ≡ self.now.layout.now }
         ensures start { result.at ≡ 0 }

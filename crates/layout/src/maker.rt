@@ -88,7 +88,7 @@ impl TryFrom<RawItem> for Item {
         } = raw;
         let exists = match kind {
             Kind::Bits => length == 1 && limit == 0,
-            Kind::Number => length >= 1 && length <= 8 && mask == 0 && limit <= greatest(length),
+            Kind::Number => (1..=8).contains(&length) && mask == 0 && limit <= greatest(length),
         };
         if !exists {
             return Err(NoItem);

@@ -11,7 +11,7 @@ pub struct Name {
 }
 
 impl Name {
-    /// The name past the end of a layout.
+    /// The name past the end of a layout: zeros and no Option, as the interface promises.
     pub const NONE: Name = Name { letters: [0; 3] };
 }
 

@@ -13,8 +13,8 @@ pub(crate) const HEAD: usize = 8;
 /// The octets of an entry.
 pub(crate) const ENTRY: usize = 16;
 
-/// The entry that 16 octets write down: kind, the governor's item and bit, length, mask, name in three, limit in eight. No `From`: the
-/// entry belongs to the crate below, which does not know files.
+/// The entry that 16 octets write down: kind, the governor's item and bit, length, mask, name in three, limit in eight.
+/// No `From`: the entry belongs to the crate below, which does not know files.
 pub(crate) fn decode_entry(octets: &[u8; ENTRY]) -> RawEntry
     ensures { result ≡ entry_in octets.now }
 {

@@ -9,7 +9,7 @@ use layout::items::Items;
 use layout::kind::Governor;
 use layout::layout::Layout;
 
-/// Whether a governor is this bit of this item.
+/// Whether a governor is this bit of this item. The item is a place and no octet, so the two are no `Governor` to compare with.
 fn is_bit(governor: Option<Governor>, item: usize, bit: u8) -> bool
     ensures { MatchBool result (governor_meaning governor ≡ governed_by item bit) (governor_meaning governor ≢ governed_by item bit) }
 {

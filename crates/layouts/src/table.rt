@@ -7,7 +7,7 @@ use layout::named::NamedLayout;
 use std::alloc::Global;
 use std::fmt::Write;
 
-/// A governor, as text that a column pads, as `Display` of parts would not.
+/// A governor as one text, since a column pads a text and not what `Display` writes part by part.
 fn governor_text(heap: Global, governor: Option<Governor>) -> anyhow::Result<String> {
     match governor {
         None => Ok(String::from_str(heap, "none")?),
@@ -15,7 +15,7 @@ fn governor_text(heap: Global, governor: Option<Governor>) -> anyhow::Result<Str
     }
 }
 
-/// The named bits of a mask by their numbers, a dot for each spare one.
+/// The named bits of a mask by their numbers, a dot for each spare one; one text for the same reason.
 fn bits_text(heap: Global, mask: u8) -> anyhow::Result<String> {
     let mut text = String::new(heap);
     for bit in (0u8..8).rev() {

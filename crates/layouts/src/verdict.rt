@@ -19,7 +19,7 @@ pub(crate) struct Above<'a, L: Layout> {
     pub lower: &'a L,
 }
 
-/// Prints where the upper layout fails to extend the lower.
+/// Prints where the upper layout fails to extend the lower. No `Display`: two of the faults print a line with a layout's name.
 fn explain(
     rt: &HostRuntime,
     first: &str,

@@ -22,7 +22,7 @@ pub fn header_size(rest: &[u8], place: usize) -> Result<usize, PacketFault>
     Ok(size)
 }
 
-/// One step of the walk: the header of type `kind` that starts `rest` at `place`, and the octets behind it.
+/// One step of the walk: the header of type `kind` (a number, as `Header` has it) that starts `rest` at `place`, and the octets behind it.
 /// Question 9 stands before it; of a header that does not fit, both have what octets there are.
 pub fn step<'a>(kind: u8, rest: &'a [u8], place: usize) -> (Header<'a>, &'a [u8])
     ensures header { header_meaning result.0 ≡ header_at kind place rest.now }

@@ -21,7 +21,7 @@ pub struct Found<'a> {
 }
 
 /// Finds the one container of the packet that is the first `count` octets of the buffer, or gives the first
-/// no to the questions 5 to 10.
+/// no to the questions 5 to 10. Buffer and count are two values: question 5 asks whether the buffer has so many octets.
 #[tactic(auto, using(crate::proofs::Containers::asked_in_order, crate::proofs::Layouts::packet_is_laid_out))]
 pub fn find_container(buffer: &[u8], count: usize) -> Result<Found<'_>, PacketFault>
     ensures answer { answer_of located_of packet_refusal result ≡ container-in buffer.now count }

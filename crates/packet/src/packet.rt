@@ -18,7 +18,7 @@ pub(crate) struct Packet<'a> {
 }
 
 impl<'a> Packet<'a> {
-    // Question 5, of the packet that is the first `count` octets of the buffer, if it has so many: no slice can say that it lacks some.
+    // Question 5, of the packet that is the first `count` octets of the buffer, where there are so many.
     #[tactic(auto, using(crate::proofs::Packets::counted_yes, crate::proofs::Packets::counted_no))]
     pub(crate) fn of(buffer: &'a [u8], count: usize) -> Result<Packet<'a>, PacketFault>
         ensures { answer_of (λ p. p.octets.now) packet_refusal result ≡ counted buffer.now count }

@@ -16,7 +16,7 @@ pub enum Part {
     Mask,
 }
 
-/// The part in words, as they end the sentence that the upper item has another.
+/// The part in words, as they follow 'item 3 has another'.
 impl fmt::Display for Part {
     ghost output = { λ part. Some (part_words part) };
 

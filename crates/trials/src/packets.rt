@@ -14,7 +14,8 @@ pub const UNTOUCHED: [Row; 64] = [Row {
     value: 7777,
 }; 64];
 
-/// A G-PDU: the first type, the chain's octets, and so many octets of inner packet.
+/// A G-PDU: the first type, the chain's octets, and so many octets of inner packet. The kind trials make one of a frame; a crate for
+/// both would be longer than the two.
 pub(crate) fn packet(
     rt: &HostRuntime,
     first: u8,

@@ -18,20 +18,9 @@ fn show<L: Layout>(
     table: usize,
 ) -> anyhow::Result<()> {
     let mut rows = UNTOUCHED;
-    show_in(rt, case, layout, chain, &mut rows, table)
-}
-
-fn show_in<L: Layout>(
-    rt: &HostRuntime,
-    case: &str,
-    layout: &L,
-    chain: &[u8],
-    rows: &mut [Row],
-    table: usize,
-) -> anyhow::Result<()> {
     let octets = packet(rt, 0x85, chain, 0)?;
     let size = table.min(rows.len());
-    match read(layout, &octets, octets.len(), &mut rows[0..size]) {
+    match read(layout, &octets, octets.len(), &mut rows[..size]) {
         Ok(reading) => {
             let present = reading.present;
             print!(rt; "{case}: {present} present, tail")?;
@@ -42,10 +31,10 @@ fn show_in<L: Layout>(
             print!(rt; "{case}: {refusal}")?;
         }
     }
-    let count = written(rows);
+    let count = written(&rows);
     println!(rt; "; {count} rows written")?;
     if count < 6 {
-        show_rows(rt, rows, count)?;
+        show_rows(rt, &rows[..count])?;
     }
     Ok(())
 }
@@ -58,9 +47,9 @@ fn show_octets(rt: &HostRuntime, octets: &[u8]) -> anyhow::Result<()> {
     Ok(())
 }
 
-/// Prints the first rows.
-fn show_rows(rt: &HostRuntime, rows: &[Row], count: usize) -> anyhow::Result<()> {
-    for row in rows.iter().take(count) {
+/// Prints rows.
+fn show_rows(rt: &HostRuntime, rows: &[Row]) -> anyhow::Result<()> {
+    for row in rows {
         let present = row.present as u8;
         let place = row.place;
         let value = row.value;
