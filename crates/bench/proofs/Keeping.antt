@@ -2,7 +2,7 @@
 use Rattle.std.proofs.Common.{◌≡◌, ℕ, zero, suc, ◌+◌, ◌<◌, ◌≤◌, min, true, false, eqb, List, [], ◌∷◌, ◌++◌, length, take, sym, refl, ap, ◌∙◌, subst, ⊎_elim, append_assoc, append-nil, Result, Ok, Err, IsOk, OnOk, ◌↔◌, arith}
 use lib.Seq.{take-append-add}
 use Rattle.std.proofs.lemmas.List.{take_all, take_min, take-append-le, length-take, length-append}
-use Rattle.std.proofs.lemmas.Bool.{cases_lt, eqb-false}
+use Rattle.std.proofs.lemmas.Bool.{cases_lt, eqb-true, eqb-false}
 use Rattle.layout.specs.declared.table.Published.{Published}
 use Rattle.layout.specs.declared.table.Published.TheVariants.{Dl16, Ul161, Ul163, Ul19}
 use Rattle.bench.specs.Inputs.{NoEnd}
@@ -86,6 +86,10 @@ pub no_end_append : (a b : List ℕ) → NoEnd a → NoEnd b → NoEnd (a ++ b)
 no_end_append [] b h k i l e = k i l e
 no_end_append (x ∷ a) b h k zero l e = h 0 (omega arith) e
 no_end_append (x ∷ a) b h k (suc i) l e = no_end_append a b (λ j m f. h (suc j) (omega arith) f) k i (omega arith) e
+
+pub last_none : (l items : List ℕ) (d : Desk) → true ≡ eqb (length items) 0 → items ≡ kept l → AnswersLines (last_line l) d d
+last_none [] items d t h = refl
+last_none (x ∷ xs) items d t h = let e : 0 ≡ length items = sym (eqb-true (length items) 0 (sym t)) in absurd (omega (arith, ap length h))
 
 pub last_answers : (l items : List ℕ) (d e : Desk) → false ≡ eqb (length items) 0 → items ≡ kept l → AnswersLine items d e → AnswersLines (last_line l) d e
 last_answers [] items d e t h a = absurd (eqb-false (length items) 0 (sym t) (ap length h))
