@@ -4,7 +4,6 @@
 mod answer;
 mod desk;
 mod digits;
-mod feed;
 mod input;
 mod line;
 mod print;
