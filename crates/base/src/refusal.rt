@@ -6,7 +6,8 @@ use crate::question::Question;
 use std::fmt;
 
 /// A refusal: a question, and the place where its answer is no; what the place counts belongs to the question.
-/// The origin is the kind of the layout that was asked, where the question is put to a layout.
+/// The origin is the kind of the layout that was asked, where the question is put to a layout. Faults end in a literal of the
+/// three, which is as plain as a call.
 #[derive(Clone, Copy, PartialEq, Eq, Debug)]
 pub struct Refusal {
     pub question: Question,

@@ -63,13 +63,13 @@ pub(crate) fn octets_in(item: &Item, row: Row) -> usize
 }
 
 /// Looks at each row in turn; answers how many octets the present items take.
-pub(crate) fn check_rows<L: Layout>(record: &Record<'_, L>) -> Result<usize, WriteFault>
-    ensures { MatchResult result (λ s. (first_unfit (L.meaning record.now.lawful.layout.now) record.now.rows.now ≡ record.now.lawful.count) × (s ≡ length (joined (pieces_for (L.meaning record.now.lawful.layout.now).items record.now.rows.now))) × (s ≤ 512)) (λ f. (f ≡ of-unfit (first_unfit (L.meaning record.now.lawful.layout.now) record.now.rows.now)) × (first_unfit (L.meaning record.now.lawful.layout.now) record.now.rows.now ≢ record.now.lawful.count)) }
+pub(crate) fn check_rows<L: Layout>(given: &Record<'_, L>) -> Result<usize, WriteFault>
+    ensures { MatchResult result (λ s. (first_unfit (L.meaning given.now.lawful.layout.now) given.now.rows.now ≡ given.now.lawful.count) × (s ≡ length (joined (pieces_for (L.meaning given.now.lawful.layout.now).items given.now.rows.now))) × (s ≤ 512)) (λ f. (f ≡ of-unfit (first_unfit (L.meaning given.now.lawful.layout.now) given.now.rows.now)) × (first_unfit (L.meaning given.now.lawful.layout.now) given.now.rows.now ≢ given.now.lawful.count)) }
 {
-    let pdu_type = record.lawful.layout.pdu_type();
+    let pdu_type = given.lawful.layout.pdu_type();
     let mut size = 0;
-    for (i, (item, row)) in record.lawful.items().zip(record.rows).enumerate() {
-        if !is_fit_at(i, pdu_type, &item, record.rows, *row) {
+    for (i, (item, row)) in given.lawful.items().zip(given.rows).enumerate() {
+        if !is_fit_at(i, pdu_type, &item, given.rows, *row) {
             return Err(WriteFault::Unfit { item: i });
         }
         size += octets_in(&item, *row);

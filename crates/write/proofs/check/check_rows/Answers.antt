@@ -7,8 +7,8 @@ use Rattle.write.proofs.check.check_rows.Goals as goal
 
 pub returns-then-not-is_fit_at : goal.returns-then-not-is_fit_at
 returns-then-not-is_fit_at g c =
-    let m = g.L.Layout.meaning c.args.record.now.lawful.layout.now in
-    let rs = c.args.record.now.rows.now in
+    let m = g.L.Layout.meaning c.args.given.now.lawful.layout.now in
+    let rs = c.args.given.now.rows.now in
     let i = (zip_first (enumerate_source c.loop-i.i-iterator)).at in
     let steps = c.in-Some.ensures.steps in
     let given = rw c.loop-i.invariant.same at steps.0.0.1 in
@@ -16,12 +16,12 @@ returns-then-not-is_fit_at g c =
     let u : c.in-Some.i ≡ first_unfit m rs =
     unfit_here m rs i _ c.loop-i.invariant.fitting _ _ given.item (nth_from_rest rs i _ _ (sym c.loop-i.invariant.rest ∙ steps.0.1))
     _ _ c.pdu_type-pdu_type.ensures.value here c.if-not-is_fit_at.ensures in
-    (ap Unfit u, λ e. let b : ⊥ = omega (arith, u, e, here, given.within, c.args.record.now.lawful.counted) in b)
+    (ap Unfit u, λ e. let b : ⊥ = omega (arith, u, e, here, given.within, c.args.given.now.lawful.counted) in b)
 
 pub loop-i-preserved : goal.loop-i-preserved
 loop-i-preserved g c =
-    let m = g.L.Layout.meaning c.args.record.now.lawful.layout.now in
-    let rs = c.args.record.now.rows.now in
+    let m = g.L.Layout.meaning c.args.given.now.lawful.layout.now in
+    let rs = c.args.given.now.rows.now in
     let i = (zip_first (enumerate_source c.loop-i.i-iterator)).at in
     let steps = c.in-Some.ensures.steps in
     let given = rw c.loop-i.invariant.same at steps.0.0.1 in
@@ -43,12 +43,12 @@ loop-i-preserved g c =
 
 pub returns : goal.returns
 returns g c =
-    let m = g.L.Layout.meaning c.args.record.now.lawful.layout.now in
-    let rs = c.args.record.now.rows.now in
+    let m = g.L.Layout.meaning c.args.given.now.lawful.layout.now in
+    let rs = c.args.given.now.rows.now in
     let s = enumerate_source c.loop-i.i-iterator in
-    let enough : length m.items ≤ length rs = omega (arith, c.args.record.now.enough, c.args.record.now.lawful.counted) in
+    let enough : length m.items ≤ length rs = omega (arith, c.args.given.now.enough, c.args.given.now.lawful.counted) in
     let past : length m.items ≤ (zip_first s).at =
     ⊎_elim (λ u. let left = rw c.loop-i.invariant.same at u.1.1 in left.past) (λ u. all_past m.items rs _ _ enough c.loop-i.invariant.rest u.1.0) c.in-None.ensures.steps.0 in
-    let within : (zip_first s).at ≤ length m.items = omega (arith, c.loop-i.invariant.count, (zip_first s).within, c.args.record.now.lawful.counted) in
+    let within : (zip_first s).at ≤ length m.items = omega (arith, c.loop-i.invariant.count, (zip_first s).within, c.args.given.now.lawful.counted) in
     let f = fitting_all m rs _ _ c.loop-i.invariant.fitting past within enough in
-    (f.0 ∙ sym c.args.record.now.lawful.counted, f.1, omega (arith, c.loop-i.invariant.fitting.small, within, c.args.record.now.lawful.counted, c.args.record.now.lawful.few))
+    (f.0 ∙ sym c.args.given.now.lawful.counted, f.1, omega (arith, c.loop-i.invariant.fitting.small, within, c.args.given.now.lawful.counted, c.args.given.now.lawful.few))
