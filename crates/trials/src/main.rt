@@ -5,10 +5,12 @@ mod layouts;
 mod listed;
 mod packets;
 mod tables;
+mod writing;
 
 fn main(rt: HostRuntime) -> anyhow::Result<()> {
     layouts::run(&rt)?;
     packets::run(&rt)?;
     tables::run(&rt)?;
+    writing::run(&rt)?;
     Ok(())
 }

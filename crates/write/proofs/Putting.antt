@@ -1,8 +1,6 @@
 -- The octets of a record, put one item after another.
-use Rattle.std.proofs.Common.{◌≡◌, ℕ, zero, suc, ◌+◌, ◌-◌, ◌^◌, ◌<◌, ◌≤◌, Bool, true, false, cond, List, [], ◌∷◌, ◌++◌, length, get_or, take, drop, Some, sym, refl, ap, ◌∙◌, subst, ap₂, append_assoc, add-one, arith, length-append, length-take-le, take_all}
-use native.Mathlib.Nat.{sub-zero}
+use Rattle.std.proofs.Common.{◌≡◌, ℕ, zero, suc, ◌+◌, ◌^◌, ◌<◌, ◌≤◌, Bool, true, false, cond, List, [], ◌∷◌, ◌++◌, length, get_or, take, Some, sym, refl, ap, ◌∙◌, subst, ap₂, append_assoc, add-one, arith, length-append, length-take-le, take_all}
 use Rattle.std.specs.List.{slice_get}
-use Rattle.std.proofs.lemmas.List.{drop-drop}
 use Rattle.base.specs.Octets.{octets_of}
 use Rattle.base.proofs.Writing.{length-octets_of}
 use Rattle.layout.specs.Items.{ItemMeaning, Meaning, may_exist, item_at, no_item}
@@ -10,7 +8,7 @@ use Rattle.layout.proofs.Nths.{take_to_nth, lt_from_nth, get_or-from_nth}
 use Rattle.frame.specs.declared.row.Row.{Row}
 use Rattle.frame.specs.Pieces.{joined}
 use Rattle.frame.specs.Rows.{absent}
-use Rattle.write.specs.Writing.{rows_fit, first_unfit, piece_for, pieces_for}
+use Rattle.write.specs.Writing.{rows_fit, first_unfit, piece_for, pieces_for, head_of, packet_of}
 use Rattle.write.proofs.Checking.{nth-piece, length_pieces, joined_push}
 use Rattle.write.proofs.Fitting.{RowFit, each_row_fits, also_first_yes, value_small}
 
@@ -97,44 +95,7 @@ value_fits m rs many f i x r e q made =
     by true s u = value_small x.kind x r.value refl made (u.has s)
     by false s u = omega (arith, u.none s)
 
-drop-front : {X : Type 0} (a b : List X) → drop (length a) (a ++ b) ≡ b
-drop-front [] b = refl
-drop-front (x ∷ a) b = drop-front a b
-
--- three parts put one behind another at the start of a buffer
-module _ (a b c old : List ℕ) (x y z : ℕ) (p : length a ≡ x) (q : length b ≡ y) where
-  abbrev first : List ℕ
-  first = a ++ drop (x - 0) old
-
-  abbrev second : List ℕ
-  second = take x first ++ (b ++ drop (x + y - x) (drop x first))
-
-  pub three_parts : take (x + y) second ++ (c ++ drop (x + y + z - (x + y)) (drop (x + y) second)) ≡ a ++ (b ++ (c ++ drop (x + y + z) old))
-  three_parts =
-      ap₂ (λ (l r : List ℕ). l ++ (c ++ r)) front back ∙ append_assoc a b (c ++ drop (x + y + z) old)
-    where
-      first_front : take x first ≡ a
-      first_front = ap (λ (n : ℕ). take n first) (sym p) ∙ take-front a (drop (x - 0) old)
-
-      first_back : drop x first ≡ drop x old
-      first_back = ap (λ (n : ℕ). drop n first) (sym p) ∙ drop-front a (drop (x - 0) old) ∙ ap (λ (n : ℕ). drop n old) (sub-zero x)
-
-      two : second ≡ (a ++ b) ++ drop (x + y) old
-      two =
-          ap₂ (λ (l r : List ℕ). l ++ (b ++ r)) first_front
-          (ap (drop (x + y - x)) first_back ∙ drop-drop (x + y - x) x old ∙ ap (λ (n : ℕ). drop n old) (omega arith))
-          ∙ sym (append_assoc a b (drop (x + y) old))
-
-      long : length (a ++ b) ≡ x + y
-      long = length-append a b ∙ omega arith
-
-      front : take (x + y) second ≡ a ++ b
-      front = ap (take (x + y)) two ∙ ap (λ (n : ℕ). take n ((a ++ b) ++ drop (x + y) old)) (sym long) ∙ take-front (a ++ b) (drop (x + y) old)
-
-      back : drop (x + y + z - (x + y)) (drop (x + y) second) ≡ drop (x + y + z) old
-      back =
-          ap (λ (l : List ℕ). drop (x + y + z - (x + y)) (drop (x + y) l)) two
-          ∙ ap (λ (n : ℕ). drop (x + y + z - (x + y)) (drop n ((a ++ b) ++ drop (x + y) old))) (sym long)
-          ∙ ap (drop (x + y + z - (x + y))) (drop-front (a ++ b) (drop (x + y) old))
-          ∙ drop-drop (x + y + z - (x + y)) (x + y) old
-          ∙ ap (λ (n : ℕ). drop n old) (omega arith)
+-- what is put before the frame, the frame with the type behind it, and the inner packet are the packet
+pub packet_put : (teid : ℕ) (f inner a b c : List ℕ) → a ≡ head_of (length f) teid (length inner) → b ≡ f ++ 0 ∷ [] → c ≡ inner
+    → a ++ (b ++ c) ≡ packet_of teid f inner
+packet_put teid f inner a b c x y z = ap₂ ◌++◌ x (ap₂ ◌++◌ y z ∙ append_assoc f (0 ∷ []) inner)

@@ -59,13 +59,14 @@ padding s = (6 - s % 4) % 4
 abbrev pub plain_frame : List ItemMeaning → List Row → List ℕ
 plain_frame is rs = joined (pieces_for is rs) ++ replicate (padding (length (joined (pieces_for is rs)))) 0
 
--- The packet of a frame: the first octets `34 FF`, the length, the TEID, `00 00 00 85`, one header with the frame and
--- the next type 0, and the inner packet. The length counts the octets behind the first eight.
+-- The octets in front of a frame of f octets, with n octets of inner packet behind it: the first octets `34 FF`, the length,
+-- the TEID, `00 00 00 85`, and the unit count of the header. The length counts the octets behind the first eight.
+abbrev pub head_of : ℕ → ℕ → ℕ → List ℕ
+head_of f teid n = 0x34 ∷ 0xFF ∷ (octets_of 2 (f + n + 6) ++ (octets_of 4 teid ++ (0 ∷ 0 ∷ 0 ∷ 0x85 ∷ (f + 2) / 4 ∷ [])))
+
+-- the packet of a frame: one header with the frame and the next type 0, and the inner packet
 abbrev pub packet_of : ℕ → List ℕ → List ℕ → List ℕ
-packet_of teid f inner =
-    0x34 ∷ 0xFF
-    ∷ (octets_of 2 (length f + length inner + 6)
-    ++ (octets_of 4 teid ++ (0 ∷ 0 ∷ 0 ∷ 0x85 ∷ (length f + 2) / 4 ∷ (f ++ 0 ∷ inner))))
+packet_of teid f inner = head_of (length f) teid (length inner) ++ (f ++ 0 ∷ inner)
 
 -- 21: is the new frame at most 1,018 octets, and the new packet at most 9,216 and no longer than the buffer?
 abbrev pub may_be_held : List ℕ → List ℕ → ℕ → Bool

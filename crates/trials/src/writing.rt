@@ -1,0 +1,185 @@
+//! Writing: what is made of rows, the parts of question 22, the bounds of 21, and buffers that stay.
+use crate::layouts::{made, octet};
+use crate::listed::Listed;
+use crate::packets::UNTOUCHED;
+use base::refusal::Refusal;
+use frame::read::read;
+use frame::row::Row;
+use layout::layout::Layout;
+use layout::maker::{NO_GOVERNOR, RawItem};
+use layout::table::Published;
+use write::write::write;
+
+/// What buffers hold before a packet is written.
+const OLD: u8 = 0xaa;
+
+/// A row for each item of UL 19, which has the most, and one more; those named are present with these values.
+fn rows_of(present: &[(usize, u64)]) -> [Row; 16] {
+    let mut rows = [Row::default(); 16];
+    for (i, value) in present {
+        if let Some(row) = rows.get_mut(*i) {
+            *row = Row {
+                present: true,
+                place: 0,
+                value: *value,
+            };
+        }
+    }
+    rows
+}
+
+/// Whether a read of the packet shows these rows again.
+fn reads_back<L: Layout>(layout: &L, packet: &[u8], rows: &[Row]) -> bool {
+    let mut shown = UNTOUCHED;
+    let Ok(reading) = read(layout, packet, packet.len(), &mut shown) else {
+        return false;
+    };
+    let same = rows
+        .iter()
+        .zip(&shown)
+        .take(layout.count())
+        .all(|(a, b)| a.present == b.present && a.value == b.value);
+    same && reading.tail.iter().all(|octet| *octet == 0)
+}
+
+/// Writes a packet with so many octets of inner packet into a buffer of so many octets. Prints the first of its octets and
+/// whether it reads back, or the refusal; and how many octets of the buffer are as they were, from the end.
+fn show<L: Layout>(
+    rt: &HostRuntime,
+    case: &str,
+    layout: &L,
+    rows: &[Row],
+    inner: usize,
+    room: usize,
+) -> anyhow::Result<()> {
+    let mut buffer = Vec::new(rt.alloc());
+    buffer.resize(room, OLD)?;
+    let mut payload = Vec::new(rt.alloc());
+    payload.resize(inner, 0x45)?;
+    match write(layout, rows, 0x0102_0304, &payload, &mut buffer) {
+        Ok(count) => {
+            let packet = buffer.get(..count).unwrap_or(&[]);
+            print!(rt; "{case}: {count}:")?;
+            for octet in packet.iter().take(40) {
+                print!(rt; " {octet:02x}")?;
+            }
+            let back = reads_back(layout, packet, rows);
+            print!(rt; "; reads back {back}")?;
+        }
+        Err(fault) => {
+            let refusal = Refusal::from(fault);
+            print!(rt; "{case}: {refusal}")?;
+        }
+    }
+    let old = buffer
+        .iter()
+        .rev()
+        .take_while(|octet| **octet == OLD)
+        .count();
+    println!(rt; "; {old} of {room} stay")?;
+    Ok(())
+}
+
+/// Frames of published layouts.
+fn run_frames(rt: &HostRuntime) -> anyhow::Result<()> {
+    let least = rows_of(&[(0, 0), (1, 9)]);
+    show(rt, "the least", &Published::Dl16, &least, 1, 20)?;
+    let paged = rows_of(&[(0, 0), (1, 0x89), (2, 160)]);
+    show(rt, "padded", &Published::Dl16, &paged, 0, 24)?;
+    let stamped = rows_of(&[(0, 0x0c), (1, 9), (3, u64::MAX), (4, 0x0001_02ff)]);
+    show(rt, "a stamp", &Published::Dl16, &stamped, 2, 40)?;
+    let congested = rows_of(&[(0, 16), (1, 69), (9, 2), (11, 9574)]);
+    show(rt, "congestion", &Published::Ul19, &congested, 0, 20)
+}
+
+/// Each part of question 22, and 4.
+fn run_rows(rt: &HostRuntime) -> anyhow::Result<()> {
+    let dl = &Published::Dl16;
+    let ul = &Published::Ul19;
+    show(
+        rt,
+        "present, flag 0",
+        dl,
+        &rows_of(&[(0, 0), (1, 9), (4, 1)]),
+        0,
+        30,
+    )?;
+    show(rt, "absent, flag 1", dl, &rows_of(&[(0, 4), (1, 9)]), 0, 30)?;
+    let mut valued = rows_of(&[(0, 0), (1, 9)]);
+    valued[3].value = 1;
+    show(rt, "absent with a value", dl, &valued, 0, 30)?;
+    show(
+        rt,
+        "at the limit",
+        ul,
+        &rows_of(&[(0, 16), (1, 64), (9, 2), (11, 10000)]),
+        0,
+        20,
+    )?;
+    show(
+        rt,
+        "over the limit",
+        ul,
+        &rows_of(&[(0, 16), (1, 64), (9, 2), (11, 10001)]),
+        0,
+        20,
+    )?;
+    show(
+        rt,
+        "a number too long",
+        dl,
+        &rows_of(&[(0, 4), (1, 9), (4, 1 << 24)]),
+        0,
+        30,
+    )?;
+    show(rt, "a spare bit", dl, &rows_of(&[(0, 1), (1, 9)]), 0, 30)?;
+    show(
+        rt,
+        "a value of nine bits",
+        dl,
+        &rows_of(&[(0, 0), (1, 265)]),
+        0,
+        30,
+    )?;
+    show(rt, "another type", dl, &rows_of(&[(0, 16), (1, 9)]), 0, 30)?;
+    show(
+        rt,
+        "5 rows for 5 items",
+        dl,
+        &rows_of(&[(0, 0), (1, 9)])[..5],
+        0,
+        16,
+    )?;
+    show(
+        rt,
+        "4 rows for 5 items",
+        dl,
+        &rows_of(&[(0, 0), (1, 9)])[..4],
+        0,
+        16,
+    )
+}
+
+/// The bounds of question 21, and a layout that is refused.
+fn run_bounds(rt: &HostRuntime) -> anyhow::Result<()> {
+    let rows = rows_of(&[(0, 0), (1, 9)]);
+    show(rt, "one octet short", &Published::Dl16, &rows, 4, 19)?;
+    show(rt, "just enough", &Published::Dl16, &rows, 4, 20)?;
+    show(rt, "no buffer", &Published::Dl16, &rows, 0, 0)?;
+    show(rt, "9,216 octets", &Published::Dl16, &rows, 9200, 9300)?;
+    show(rt, "9,217 octets", &Published::Dl16, &rows, 9201, 9300)?;
+    let raws: [RawItem; 65] = [octet(NO_GOVERNOR, 0, 0xf0); 65];
+    let items = made(rt, &raws)?;
+    let layout = Listed {
+        pdu_type: 0,
+        items: &items,
+    };
+    show(rt, "65 items to write", &layout, &rows, 0, 30)
+}
+
+/// Runs the cases on writing.
+pub(crate) fn run(rt: &HostRuntime) -> anyhow::Result<()> {
+    run_frames(rt)?;
+    run_rows(rt)?;
+    run_bounds(rt)
+}
