@@ -13,6 +13,9 @@ use write::write::write;
 /// What buffers hold before a packet is written.
 const OLD: u8 = 0xaa;
 
+/// The TEID of each packet.
+const TEID: u32 = 0x0102_0304;
+
 /// A row for each item of UL 19, which has the most, and one more; those named are present with these values.
 fn rows_of(present: &[(usize, u64)]) -> [Row; 16] {
     let mut rows = [Row::default(); 16];
@@ -28,8 +31,8 @@ fn rows_of(present: &[(usize, u64)]) -> [Row; 16] {
     rows
 }
 
-/// Whether a read of the packet shows these rows again.
-fn reads_back<L: Layout>(layout: &L, packet: &[u8], rows: &[Row]) -> bool {
+/// Whether a read of the packet shows these rows again, with the inner packet and a tail that is only padding.
+fn reads_back<L: Layout>(layout: &L, packet: &[u8], rows: &[Row], inner: &[u8]) -> bool {
     let mut shown = UNTOUCHED;
     let Ok(reading) = read(layout, packet, packet.len(), &mut shown) else {
         return false;
@@ -39,7 +42,21 @@ fn reads_back<L: Layout>(layout: &L, packet: &[u8], rows: &[Row]) -> bool {
         .zip(&shown)
         .take(layout.count())
         .all(|(a, b)| a.present == b.present && a.value == b.value);
-    same && reading.tail.iter().all(|octet| *octet == 0)
+    same && reading.inner == inner
+        && reading.tail.len() <= 3
+        && reading.tail.iter().all(|octet| *octet == 0)
+}
+
+/// Whether the rows that a read of the packet shows, in a table with more rows behind them, are written to the same packet.
+fn rewrites<L: Layout>(rt: &HostRuntime, layout: &L, packet: &[u8]) -> anyhow::Result<bool> {
+    let mut shown = UNTOUCHED;
+    let Ok(reading) = read(layout, packet, packet.len(), &mut shown) else {
+        return Ok(false);
+    };
+    let mut again = Vec::new(rt.alloc());
+    again.resize(packet.len(), OLD)?;
+    let written = write(layout, &shown, TEID, reading.inner, &mut again);
+    Ok(written == Ok(packet.len()) && again.as_slice() == packet)
 }
 
 /// Writes a packet with so many octets of inner packet into a buffer of so many octets. Prints the first of its octets and
@@ -56,15 +73,16 @@ fn show<L: Layout>(
     buffer.resize(room, OLD)?;
     let mut payload = Vec::new(rt.alloc());
     payload.resize(inner, 0x45)?;
-    match write(layout, rows, 0x0102_0304, &payload, &mut buffer) {
+    match write(layout, rows, TEID, &payload, &mut buffer) {
         Ok(count) => {
             let packet = buffer.get(..count).unwrap_or(&[]);
             print!(rt; "{case}: {count}:")?;
             for octet in packet.iter().take(40) {
                 print!(rt; " {octet:02x}")?;
             }
-            let back = reads_back(layout, packet, rows);
-            print!(rt; "; reads back {back}")?;
+            let back = reads_back(layout, packet, rows, &payload);
+            let again = rewrites(rt, layout, packet)?;
+            print!(rt; "; reads back {back}, written again {again}")?;
         }
         Err(fault) => {
             let refusal = Refusal::from(fault);
@@ -144,7 +162,7 @@ fn run_rows(rt: &HostRuntime) -> anyhow::Result<()> {
     show(rt, "another type", dl, &rows_of(&[(0, 16), (1, 9)]), 0, 30)?;
     show(
         rt,
-        "5 rows for 5 items",
+        "5 rows to write",
         dl,
         &rows_of(&[(0, 0), (1, 9)])[..5],
         0,
@@ -152,11 +170,32 @@ fn run_rows(rt: &HostRuntime) -> anyhow::Result<()> {
     )?;
     show(
         rt,
-        "4 rows for 5 items",
+        "4 rows to write",
         dl,
         &rows_of(&[(0, 0), (1, 9)])[..4],
         0,
         16,
+    )
+}
+
+/// Two questions whose answers are no: the first in order refuses.
+fn run_orders(rt: &HostRuntime) -> anyhow::Result<()> {
+    let rows = rows_of(&[(0, 1), (1, 9)]);
+    show(
+        rt,
+        "4 rows, a spare bit",
+        &Published::Dl16,
+        &rows[..4],
+        0,
+        16,
+    )?;
+    show(
+        rt,
+        "a spare bit, a short buffer",
+        &Published::Dl16,
+        &rows,
+        0,
+        15,
     )
 }
 
@@ -181,5 +220,6 @@ fn run_bounds(rt: &HostRuntime) -> anyhow::Result<()> {
 pub(crate) fn run(rt: &HostRuntime) -> anyhow::Result<()> {
     run_frames(rt)?;
     run_rows(rt)?;
+    run_orders(rt)?;
     run_bounds(rt)
 }
