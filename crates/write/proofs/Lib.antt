@@ -5,3 +5,4 @@ pub mod Plain
 pub mod Rewriting
 pub mod Putting
 pub mod Planning
+pub mod Behind

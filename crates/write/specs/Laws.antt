@@ -39,3 +39,9 @@ PlainRewrites =
     → (teid : ℕ) (inner : List ℕ) (room : ℕ) → teid < 2 ^ 32
     → length w.located.frame + length inner + 14 ≤ 9216 → length w.located.frame + length inner + 14 ≤ room
     → written o m (shown_rows m w) teid inner room ≡ gives (packet_of teid w.located.frame inner)
+
+-- rows behind a layout's last item are not looked at
+abbrev pub RowsBehindDoNotCount : Type 0
+RowsBehindDoNotCount =
+    (o : ℕ) (m : Meaning) → lawful o m ≡ gives tt → (rs more : List Row) → length m.items ≤ length rs
+    → (teid : ℕ) (inner : List ℕ) (room : ℕ) → written o m (rs ++ more) teid inner room ≡ written o m rs teid inner room

@@ -4,7 +4,7 @@ ghost use Rattle.base.specs.Answers.{answer_of, refused, gives};
 ghost use Rattle.frame.specs.Pieces.{joined};
 ghost use Rattle.write.specs.Faults.{write_refusal};
 ghost use Rattle.write.specs.Writing.{first_unfit, pieces_for, padding, plain_frame, packet_of, written, write_answer, write_buffer};
-ghost use Rattle.write.specs.Laws.{WrittenReadsBack, PlainRewrites};
+ghost use Rattle.write.specs.Laws.{WrittenReadsBack, PlainRewrites, RowsBehindDoNotCount};
 
 use crate::check::check_rows;
 use crate::fault::WriteFault;
@@ -87,7 +87,7 @@ fn plan_packet<'a, L: Layout>(
 
 /// Writes a packet into the first octets of a buffer: of the rows a frame in plain form, a TEID and an inner packet. Answers the
 /// packet's count, or the first no to questions 1 to 4, 22 and 21, and then changes no octet.
-#[tactic(auto, using(crate::proofs::Rewriting::plain_rewrites))]
+#[tactic(auto, using(crate::proofs::Rewriting::plain_rewrites, crate::proofs::Behind::rows_behind))]
 pub fn write<L: Layout>(
     layout: &L,
     rows: &[Row],
@@ -99,6 +99,7 @@ pub fn write<L: Layout>(
     ensures buffer { buffer.new ≡ write_buffer (written L.source (L.meaning layout.now) rows.now teid inner.now (length buffer.old)) buffer.old }
     ensures reads_back { WrittenReadsBack }
     ensures rewrites { PlainRewrites }
+    ensures behind { RowsBehindDoNotCount }
 {
     let plan = plan_packet(layout, rows, inner, buffer.len())?;
     put_packet(&plan, teid, &mut buffer[..plan.count]);
