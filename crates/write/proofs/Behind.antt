@@ -61,7 +61,7 @@ rows_behind o m law rs more l teid inner room =
     bind_gives (lawful o m) _ tt law
     ∙ ask_yes _ _ _ (le-leb (length m.items) (length (rs ++ more)) (omega (arith, length-append rs more)))
     ∙ ap₂ (λ (u : ℕ) (f : List ℕ).
-      ask (eqb u (length m.items)) (no_to Q.RowFits u)
-      (ask (may_be_held f (packet_of teid f inner) room) (no_to Q.Room (length (packet_of teid f inner))) (gives (packet_of teid f inner))))
+    ask (eqb u (length m.items)) (no_to Q.RowFits u)
+    (ask (may_be_held f (packet_of teid f inner) room) (no_to Q.Room (length (packet_of teid f inner))) (gives (packet_of teid f inner))))
     (same_unfit o m law rs more l) (same_frame o m law rs more l)
     ∙ sym (bind_gives (lawful o m) _ tt law ∙ ask_yes _ _ _ (le-leb (length m.items) (length rs) l))
