@@ -110,72 +110,45 @@ fn run_frames(rt: &HostRuntime) -> anyhow::Result<()> {
     show(rt, "congestion", &Published::Ul19, &congested, 0, 20)
 }
 
-/// Each part of question 22, and 4.
-fn run_rows(rt: &HostRuntime) -> anyhow::Result<()> {
+/// Question 22: rows that are there or not, against their flags.
+fn run_flags(rt: &HostRuntime) -> anyhow::Result<()> {
     let dl = &Published::Dl16;
-    let ul = &Published::Ul19;
-    show(
-        rt,
-        "present, flag 0",
-        dl,
-        &rows_of(&[(0, 0), (1, 9), (4, 1)]),
-        0,
-        30,
-    )?;
-    show(rt, "absent, flag 1", dl, &rows_of(&[(0, 4), (1, 9)]), 0, 30)?;
+    let unflagged = rows_of(&[(0, 0), (1, 9), (4, 1)]);
+    show(rt, "present, flag 0", dl, &unflagged, 0, 30)?;
+    let missing = rows_of(&[(0, 4), (1, 9)]);
+    show(rt, "absent, flag 1", dl, &missing, 0, 30)?;
     let mut valued = rows_of(&[(0, 0), (1, 9)]);
     valued[3].value = 1;
-    show(rt, "absent with a value", dl, &valued, 0, 30)?;
-    show(
-        rt,
-        "at the limit",
-        ul,
-        &rows_of(&[(0, 16), (1, 64), (9, 2), (11, 10000)]),
-        0,
-        20,
-    )?;
-    show(
-        rt,
-        "over the limit",
-        ul,
-        &rows_of(&[(0, 16), (1, 64), (9, 2), (11, 10001)]),
-        0,
-        20,
-    )?;
-    show(
-        rt,
-        "a number too long",
-        dl,
-        &rows_of(&[(0, 4), (1, 9), (4, 1 << 24)]),
-        0,
-        30,
-    )?;
-    show(rt, "a spare bit", dl, &rows_of(&[(0, 1), (1, 9)]), 0, 30)?;
-    show(
-        rt,
-        "a value of nine bits",
-        dl,
-        &rows_of(&[(0, 0), (1, 265)]),
-        0,
-        30,
-    )?;
-    show(rt, "another type", dl, &rows_of(&[(0, 16), (1, 9)]), 0, 30)?;
-    show(
-        rt,
-        "5 rows to write",
-        dl,
-        &rows_of(&[(0, 0), (1, 9)])[..5],
-        0,
-        16,
-    )?;
-    show(
-        rt,
-        "4 rows to write",
-        dl,
-        &rows_of(&[(0, 0), (1, 9)])[..4],
-        0,
-        16,
-    )
+    show(rt, "absent with a value", dl, &valued, 0, 30)
+}
+
+/// Question 22: numbers at their limit and over it.
+fn run_limits(rt: &HostRuntime) -> anyhow::Result<()> {
+    let at = rows_of(&[(0, 16), (1, 64), (9, 2), (11, 10000)]);
+    show(rt, "at the limit", &Published::Ul19, &at, 0, 20)?;
+    let over = rows_of(&[(0, 16), (1, 64), (9, 2), (11, 10001)]);
+    show(rt, "over the limit", &Published::Ul19, &over, 0, 20)?;
+    let long = rows_of(&[(0, 4), (1, 9), (4, 1 << 24)]);
+    show(rt, "a number too long", &Published::Dl16, &long, 0, 30)
+}
+
+/// Question 22: octets with bits that they may not have.
+fn run_octets(rt: &HostRuntime) -> anyhow::Result<()> {
+    let dl = &Published::Dl16;
+    let spare = rows_of(&[(0, 1), (1, 9)]);
+    show(rt, "a spare bit", dl, &spare, 0, 30)?;
+    let wide = rows_of(&[(0, 0), (1, 265)]);
+    show(rt, "a value of nine bits", dl, &wide, 0, 30)?;
+    let other = rows_of(&[(0, 16), (1, 9)]);
+    show(rt, "another type", dl, &other, 0, 30)
+}
+
+/// Question 4.
+fn run_tables(rt: &HostRuntime) -> anyhow::Result<()> {
+    let dl = &Published::Dl16;
+    let rows = rows_of(&[(0, 0), (1, 9)]);
+    show(rt, "5 rows to write", dl, &rows[..5], 0, 16)?;
+    show(rt, "4 rows to write", dl, &rows[..4], 0, 16)
 }
 
 /// Two questions whose answers are no: the first in order refuses.
@@ -219,7 +192,10 @@ fn run_bounds(rt: &HostRuntime) -> anyhow::Result<()> {
 /// Runs the cases on writing.
 pub(crate) fn run(rt: &HostRuntime) -> anyhow::Result<()> {
     run_frames(rt)?;
-    run_rows(rt)?;
+    run_flags(rt)?;
+    run_limits(rt)?;
+    run_octets(rt)?;
+    run_tables(rt)?;
     run_orders(rt)?;
     run_bounds(rt)
 }
