@@ -135,48 +135,25 @@ fn run_bounds(rt: &HostRuntime) -> anyhow::Result<()> {
 /// Questions 6 to 8: the packet with one octet replaced.
 fn run_first_octets(rt: &HostRuntime) -> anyhow::Result<()> {
     let right = packet(rt, 0x85, &[1, 0, 9, 0], 1)?;
-    show(
-        rt,
-        "version 2",
-        &replaced(rt, &right, 0, 0x54)?,
-        right.len(),
-    )?;
-    show(
-        rt,
-        "protocol type 0",
-        &replaced(rt, &right, 0, 0x24)?,
-        right.len(),
-    )?;
-    show(
-        rt,
-        "no extension header flag",
-        &replaced(rt, &right, 0, 0x33)?,
-        right.len(),
-    )?;
-    show(
-        rt,
-        "all other flags set",
-        &replaced(rt, &right, 0, 0x3f)?,
-        right.len(),
-    )?;
-    show(
-        rt,
-        "an echo request",
-        &replaced(rt, &right, 1, 1)?,
-        right.len(),
-    )?;
-    show(
-        rt,
-        "a length of 8",
-        &replaced(rt, &right, 3, 8)?,
-        right.len(),
-    )?;
-    show(
-        rt,
-        "a length of 10",
-        &replaced(rt, &right, 3, 10)?,
-        right.len(),
-    )
+    show_replaced(rt, "version 2", &right, 0, 0x54)?;
+    show_replaced(rt, "protocol type 0", &right, 0, 0x24)?;
+    show_replaced(rt, "no extension header flag", &right, 0, 0x33)?;
+    show_replaced(rt, "all other flags set", &right, 0, 0x3f)?;
+    show_replaced(rt, "an echo request", &right, 1, 1)?;
+    show_replaced(rt, "a length of 8", &right, 3, 8)?;
+    show_replaced(rt, "a length of 10", &right, 3, 10)
+}
+
+/// Prints what a read answers of the octets with another one at a place.
+fn show_replaced(
+    rt: &HostRuntime,
+    case: &str,
+    right: &[u8],
+    place: usize,
+    octet: u8,
+) -> anyhow::Result<()> {
+    let octets = replaced(rt, right, place, octet)?;
+    show(rt, case, &octets, octets.len())
 }
 
 /// The octets with another one at a place.
