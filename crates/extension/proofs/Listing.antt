@@ -1,20 +1,33 @@
 -- What an extension has at each place.
-use Rattle.std.proofs.Common.{◌≡◌, ℕ, Option, zero, suc, ◌+◌, ◌-◌, ◌<◌, ◌≤◌, Bool, true, false, cond, leb, List, [], ◌∷◌, ◌++◌, map, length, get_or, set, sym, refl, ap, ap₂, ◌∙◌, le_of_suc-le-suc, not-suc-le-zero, arith, length-append}
+use Rattle.std.proofs.Common.{◌≡◌, ℕ, Option, zero, suc, ◌+◌, ◌-◌, ◌<◌, ◌≤◌, Bool, true, false, cond, leb, List, [], ◌∷◌, ◌++◌, map, length, get_or, take, set, sym, refl, ap, ap₂, ◌∙◌, le_of_suc-le-suc, not-suc-le-zero, arith, length-append, length-take-le, get_or-take}
 use lib.ListN.{length-map}
 use Rattle.std.specs.List.{slice_get}
 use Rattle.std.specs.Option.{option_map, unwrap_or}
-use Rattle.std.proofs.lemmas.List.{map-set, get_or-map, get_or-append_right}
+use Rattle.std.proofs.lemmas.List.{map-set, take_more_set, map_push, get_or-map, get_or-append_right}
 use Rattle.std.proofs.lemmas.Bool.{le-leb}
 use Rattle.std.proofs.lemmas.Option.{slice_get-map, unwrap_or-slice_get}
 use Rattle.layout.specs.Items.{ItemMeaning, Meaning}
 use Rattle.layout.specs.Tables.{NamedItem}
 use Rattle.extension.specs.Extended.{Extras, named_too, with_masks, added_items, extended, extended_names}
 
--- a list with one element changed, by what each stands for
-pub changed : {X Y : Type 0} (f : X → Y) (xs : List X) (k : ℕ) (y d : X) (e : Y) (g : Y → Y) → k < length xs → f y ≡ g (f (get_or xs k d))
-    → map f (set xs k y) ≡ set (map f xs) k (g (get_or (map f xs) k e))
-changed f xs k y d e g h q =
-    map-set f xs k y ∙ ap (λ (z : _). set (map f xs) k z) (q ∙ ap g (sym (get_or-map f xs k d e h)))
+-- rows of a table of which the first n count: one more, and one changed
+pub take_set_within : {X : Type 0} (n : ℕ) (xs : List X) (k : ℕ) (y : X) → k < n → take n (set xs k y) ≡ set (take n xs) k y
+take_set_within zero xs k y h = absurd (not-suc-le-zero h)
+take_set_within (suc n) [] k y h = refl
+take_set_within (suc n) (x ∷ xs) zero y h = refl
+take_set_within (suc n) (x ∷ xs) (suc k) y h = ap (λ (l : List _). x ∷ l) (take_set_within n xs k y (le_of_suc-le-suc h))
+
+module _ {X Y : Type 0} (f : X → Y) (xs : List X) (n : ℕ) where
+  pub pushed : (y : X) → n < length xs → map f (take (n + 1) (set xs n y)) ≡ map f (take n xs) ++ f y ∷ []
+  pushed y h = ap (map f) (take_more_set xs n y h) ∙ map_push f (take n xs) y
+
+  pub changed : (k : ℕ) (y d : X) (e : Y) (g : Y → Y) → k < n → n ≤ length xs → f y ≡ g (f (get_or xs k d))
+      → map f (take n (set xs k y)) ≡ set (map f (take n xs)) k (g (get_or (map f (take n xs)) k e))
+  changed k y d e g h l q =
+      ap (map f) (take_set_within n xs k y h)
+      ∙ map-set f (take n xs) k y
+      ∙ ap (λ (z : Y). set (map f (take n xs)) k z)
+      (q ∙ ap g (sym (get_or-map f (take n xs) k d e (omega (arith, length-take-le n xs l)) ∙ ap f (get_or-take n xs k d h))))
 
 pub length-with_masks : (ms : List ℕ) (is : List ItemMeaning) → length (with_masks ms is) ≡ length is
 length-with_masks [] is = refl

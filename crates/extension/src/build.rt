@@ -1,6 +1,5 @@
 //! Building an extension: adding items and naming bits.
 ghost use Rattle.std.specs.Prelude.{◌≡◌, ◌<◌, not, ◌&&◌, IfOk, OnErr, OnOk, ◌==◌, bit_and, nat_lt};
-ghost use Rattle.arrayvec.specs.ArrayVec.{array_vec_len};
 ghost use Rattle.base.specs.Answers.{answer_of};
 ghost use Rattle.base.specs.Octets.{bit};
 ghost use Rattle.layout.specs.Items.{is_bits};
@@ -75,10 +74,10 @@ impl<L: Layout> Extension<L> {
     #[tactic(auto, unfolding(crate::specs::Building::may_add, crate::specs::Building::item_or, base::specs::Answers::bind, base::specs::Answers::ask))]
     fn judge(&self, entry: &RawEntry) -> Result<Item, BuildFault>
         ensures answer { answer_of meant build_refusal result ≡ may_add L.source (L.meaning self.now.below) (extras_of self.now.more) entry.now }
-        ensures ready { IfOk result (λ i. Ready self.now.count_below (array_vec_len self.now.more.rows) (governor_meaning i.governor)) }
+        ensures ready { IfOk result (λ i. Ready self.now.count_below self.now.more.count (governor_meaning i.governor)) }
     {
         let below = lawful(&self.below)?;
-        let added = self.more.rows.len();
+        let added = self.more.count;
         let count = below.count + added;
         let item = entry.accept().ok_or(BuildFault::Entry { item: count })?;
         if !has_space(added, count) {

@@ -33,7 +33,7 @@ impl<L: Layout> Layout for Extension<L> {
         if self.count_below > MOST_ITEMS {
             return self.count_below;
         }
-        self.count_below + self.more.rows.len()
+        self.count_below + self.more.count
     }
 
     #[tactic(auto, using(crate::proofs::Listing::extended_low, crate::proofs::Listing::extended_high))]
