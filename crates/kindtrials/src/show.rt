@@ -1,4 +1,6 @@
 //! A layout's items, and what a read by it shows.
+ghost use Rattle.std.specs.Prelude.{◌<◌};
+
 use crate::build::print_no;
 use frame::read::read;
 use frame::row::Row;
@@ -36,9 +38,24 @@ pub(crate) fn show_items<N: NamedLayout>(rt: &HostRuntime, layout: &N) -> anyhow
     Ok(())
 }
 
-/// A packet of which the only header is a container with a frame, given in hexadecimal pairs (see the trials' `packet`).
+/// The value of a hexadecimal digit in capitals. Any other octet has one too: a script's digits are not judged.
+fn digit(octet: u8) -> u8
+    ensures { result < 16 }
+{
+    if octet < b'A' {
+        octet.wrapping_sub(b'0') % 16
+    } else {
+        (octet - (b'A' - 10)) % 16
+    }
+}
+
+/// A packet of which the only header is a container with a frame, given in hexadecimal pairs (see the trials' `packet`). A last digit
+/// without a second is passed over.
 fn packet(rt: &HostRuntime, digits: &str) -> anyhow::Result<Vec<u8>> {
-    let frame = hex::decode(rt.alloc(), digits)?;
+    let mut frame = Vec::new(rt.alloc());
+    for [high, low] in digits.as_bytes().as_chunks::<2>().0 {
+        frame.push(digit(*high) * 16 + digit(*low))?;
+    }
     let units = ((frame.len().saturating_add(2) / 4) % 256) as u8;
     let length = frame.len().saturating_add(6) % 65536;
     let mut octets = [
