@@ -1,8 +1,22 @@
 -- Numbers in octets, octet by octet.
-use Rattle.std.proofs.Common.{◌≡◌, ℕ, suc, ◌+◌, ◌*◌, ◌^◌, ◌<◌, ◌≤◌, List, [], ◌∷◌, length, get_or, ◌%◌, fold, ◌∙◌, mul-le-mul_right, arith, lit<, mod-eq_of_lt, Fits, w8, sym}
+use Rattle.std.proofs.Common.{◌≡◌, ℕ, suc, ◌+◌, ◌*◌, ◌^◌, ◌<◌, ◌≤◌, List, [], ◌∷◌, ◌++◌, length, get_or, take, ◌%◌, fold, ap, ◌∙◌, mul-le-mul_right, arith, lit<, mod-eq_of_lt, Fits, w8, sym, length-append}
 use Rattle.std.proofs.Math.Nat.{pow-le-pow_right, pow-succ'}
+use Rattle.std.proofs.lemmas.List.{take_more}
 use Rattle.std.proofs.lemmas.Nat.{mul-mod_first}
 use Rattle.base.specs.Octets.{big_endian}
+
+-- one octet more at the end
+pub big_endian_push : (c : List ℕ) (o : ℕ) → big_endian (c ++ o ∷ []) ≡ big_endian c * 256 + o
+big_endian_push [] o = omega arith
+big_endian_push (x ∷ c) o =
+    let more : 256 ^ (length c + 1) ≡ 256 * 256 ^ length c = ap (λ (m : ℕ). 256 ^ m) (plus (length c)) ∙ pow-succ' 256 (length c) in
+    omega (arith, big_endian_push c o, ap (λ (n : ℕ). x * 256 ^ n) (length-append c (o ∷ [])), more, ap (λ (n : ℕ). x * n) more)
+  where
+    plus : (n : ℕ) → n + 1 ≡ suc n
+    plus n = omega arith
+
+pub big_endian_more : (o : List ℕ) (i : ℕ) → i < length o → big_endian (take (i + 1) o) ≡ big_endian (take i o) * 256 + get_or o i 0
+big_endian_more o i h = ap big_endian (take_more o i 0 h) ∙ big_endian_push (take i o) (get_or o i 0)
 
 -- octet by octet, the highest first
 fold_wraps : (os : List ℕ) (n : ℕ) → n < 2 ^ 64

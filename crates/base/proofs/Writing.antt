@@ -60,6 +60,14 @@ octets_octets_of (suc k) v h =
 pub numbers_keep : NumbersKeep
 numbers_keep = (big_endian-octets_of, octets_of-big_endian)
 
+-- the octets that write a number are the only ones that do
+pub octets_are : (c : List ℕ) (v : ℕ) → ((i : ℕ) → get_or c i 0 < 256) → big_endian c ≡ v → c ≡ octets_of (length c) v
+octets_are c v h e = sym (ap (octets_of (length c)) (sym e) ∙ octets_of-big_endian c (each c h))
+  where
+    each : (c : List ℕ) → ((i : ℕ) → get_or c i 0 < 256) → Octets c
+    each [] h = tt
+    each (o ∷ c) h = (h 0, each c (λ i. h (suc i)))
+
 -- one octet more in front of those that write a number's low part
 octets_of-more : (k v : ℕ) → octets_of (suc k) (v % 256 ^ suc k) ≡ v / 256 ^ k % 256 ∷ octets_of k (v % 256 ^ k)
 octets_of-more k v =

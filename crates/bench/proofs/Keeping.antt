@@ -3,11 +3,16 @@ use Rattle.std.proofs.Common.{◌≡◌, ℕ, zero, suc, ◌+◌, ◌<◌, ◌�
 use lib.Seq.{take-append-add}
 use Rattle.std.proofs.lemmas.List.{take_all, take_min, take-append-le, length-take, length-append}
 use Rattle.std.proofs.lemmas.Bool.{cases_lt, eqb-true, eqb-false}
+use Rattle.base.specs.declared.refusal.Refusal.{Refusal}
+use Rattle.frame.specs.declared.row.Row.{Row}
 use Rattle.layout.specs.declared.table.Published.{Published}
 use Rattle.layout.specs.declared.table.Published.TheVariants.{Dl16, Ul161, Ul163, Ul19}
 use Rattle.bench.specs.Inputs.{NoEnd}
 use Rattle.bench.specs.Lines.{layout_text, IsNoCommand}
 use Rattle.bench.specs.declared.desk.Desk.{Desk}
+use Rattle.bench.specs.declared.reply.Reply.{Reply}
+use Rattle.bench.specs.declared.state.Bench.{Bench}
+use Rattle.bench.specs.Replies.{Answered}
 use Rattle.bench.specs.Sessions.{AnswersLine, AnswersLines, ended, EachNoEnd, kept, last_line}
 use Rattle.bench.proofs.Pairs.{length_pairs}
 
@@ -42,6 +47,25 @@ none_if_long l h = record {
   no_packet_line = λ os p. let e = ap length p.text in omega (arith, e, length_pairs os, p.most, h);
   no_read_line = λ p q. let e = ap length q in omega (arith, e, length_layout p, h);
 }
+
+-- what is kept of a line is answered as the whole line is
+answered_kept : (l : List ℕ) (b a : Bench) (t u : List Row) (r : Result Reply Refusal) → Answered (kept l) b a t u r → Answered l b a t u r
+answered_kept l b a t u r h = ⊎_elim short long (cases_lt (length l) 18435)
+  where
+    short : length l < 18435 → Answered l b a t u r
+    short k = subst (λ (x : List ℕ). Answered x b a t u r) (take_all 18435 l (omega arith)) h
+
+    long : 18435 ≤ length l → Answered l b a t u r
+    long k =
+        let n = none_if_long l (omega arith) in
+        record {
+          packet = λ os p. absurd (n.no_packet_line os p);
+          read = λ p q. absurd (n.no_read_line p q);
+          other = λ _. h.other (none_if_long (kept l) (omega (arith, length-take 18435 l)));
+        }
+
+pub answered_line : (x l : List ℕ) (b a : Bench) (t u : List Row) (r : Result Reply Refusal) → x ≡ kept l → Answered x b a t u r → Answered l b a t u r
+answered_line x l b a t u r e h = answered_kept l b a t u r (subst (λ (y : List ℕ). Answered y b a t u r) e h)
 
 -- what is kept of the start of a line tells as much of the whole line
 module _ (l p : List ℕ) (d e : Desk) (a : AnswersLine (kept l ++ p) d e) where

@@ -1,8 +1,9 @@
 -- The entries of a file, and the items that they are.
-use Rattle.std.proofs.Common.{◌≡◌, ℕ, zero, suc, ◌+◌, Bool, true, false, not, cond, List, [], ◌∷◌, map, length, drop, is_some, Some, None, Option, sym, refl, ap, ◌∙◌, arith}
+use Rattle.std.proofs.Common.{◌≡◌, ℕ, zero, suc, ◌+◌, ◌*◌, ◌<◌, Bool, true, false, not, cond, List, [], ◌∷◌, map, length, take, drop, is_some, Some, None, Option, sym, refl, ap, ◌∙◌, le_of_suc-le-suc, not-suc-le-zero, arith}
 use lib.ListN.{length-map}
 use Rattle.std.specs.List.{slice_get, position_or_len}
 use Rattle.std.specs.Option.{option_map}
+use Rattle.std.proofs.lemmas.List.{drop-drop}
 use Rattle.std.proofs.lemmas.List.Recursion.{is_position_or_len}
 use Rattle.std.proofs.lemmas.Option.{slice_get-map}
 use Rattle.base.specs.Answers.{first_no}
@@ -12,12 +13,35 @@ use Rattle.layout.specs.Tables.{NamedItem}
 use Rattle.layout.specs.Entries.{entry_accepted}
 use Rattle.layoutfile.specs.Files.{stated_count, sixteens, entry_in, entries, EachIsItem, with_entry, items_of}
 
-length-sixteens : (n : ℕ) (os : List ℕ) → length (sixteens n os) ≡ n
+pub length-sixteens : (n : ℕ) (os : List ℕ) → length (sixteens n os) ≡ n
 length-sixteens zero os = refl
 length-sixteens (suc n) os = ap suc (length-sixteens n (drop 16 os))
 
 pub length-entries : (os : List ℕ) → length (entries os) ≡ stated_count os
 length-entries os = length-map (sixteens (stated_count os) (drop 8 os)) entry_in ∙ length-sixteens (stated_count os) (drop 8 os)
+
+nth-sixteens : (n : ℕ) (os : List ℕ) (i : ℕ) → i < n → Some (entry_in (take 16 (drop (16 * i) os))) ≡ slice_get (map entry_in (sixteens n os)) i
+nth-sixteens zero os i h = absurd (not-suc-le-zero h)
+nth-sixteens (suc n) os zero h = refl
+nth-sixteens (suc n) os (suc i) h =
+    let d : 16 * suc i ≡ 16 + 16 * i = omega arith in
+    ap (λ (m : ℕ). Some (entry_in (take 16 (drop m os)))) d
+    ∙ ap (λ (l : List ℕ). Some (entry_in (take 16 l))) (sym (drop-drop (16 * i) 16 os))
+    ∙ nth-sixteens n (drop 16 os) i (le_of_suc-le-suc h)
+
+-- where entry i lies
+pub nth-entries : (os : List ℕ) (i : ℕ) → i < stated_count os → Some (entry_in (take 16 (drop (8 + 16 * i) os))) ≡ slice_get (entries os) i
+nth-entries os i h =
+    ap (λ (l : List ℕ). Some (entry_in (take 16 l))) (sym (drop-drop (16 * i) 8 os)) ∙ nth-sixteens (stated_count os) (drop 8 os) i h
+
+-- what is said of an option by its two cases
+pub mapped_twice : {X Y Z : Type 0} (f : Y → Z) (g : X → Y) (o : Option X) → option_map f (option_map g o) ≡ option_map (λ x. f (g x)) o
+mapped_twice f g None = refl
+mapped_twice f g (Some x) = refl
+
+pub some_mapped : {X Y : Type 0} (f : X → Y) (o : Option X) → is_some (option_map f o) ≡ is_some o
+some_mapped f None = refl
+some_mapped f (Some x) = refl
 
 -- the first no, as a search for it finds it
 pub first_no_found : {X Y : Type 0} (f : X → Bool) (g : Y → X) (ys : List Y) → first_no (map f (map g ys)) ≡ position_or_len (λ y. not (f (g y))) ys

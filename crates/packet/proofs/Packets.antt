@@ -1,6 +1,7 @@
 -- The questions 5 to 8 by the tests that the code makes.
-use Rattle.std.proofs.Common.{◌≡◌, ℕ, ◌+◌, ◌-◌, ◌*◌, ◌/◌, ◌<◌, ◌≤◌, ◌≢◌, true, ◌⊎◌, List, [], ◌∷◌, length, get_or, take, drop, ◌∙◌, arith}
+use Rattle.std.proofs.Common.{◌≡◌, ℕ, ◌+◌, ◌-◌, ◌*◌, ◌/◌, ◌<◌, ◌≤◌, ◌≢◌, true, ◌⊎◌, List, [], ◌∷◌, length, get_or, take, drop, ap, ◌∙◌, arith}
 use lib.Bits.{bit_and}
+use Rattle.std.proofs.lemmas.List.{drop_more}
 use Rattle.std.proofs.lemmas.Nat.Bits.{and_pow}
 use Rattle.std.proofs.lemmas.Bool.Decides.{nat_tests}
 use Rattle.base.specs.declared.question.Question.TheVariants as Q
@@ -17,12 +18,15 @@ pub counted_no : (b : List ℕ) (n : ℕ) → (n < 12) ⊎ ((9216 < n) ⊎ (leng
 unfolding counted
 counted_no b n out = ask_no (count_right b n) (no_to Q.PacketCount n) _ (grind (arith, nat_tests))
 
+-- the number that two octets write
+pub big_endian_two : (k : List ℕ) (i : ℕ) → i + 1 < length k → big_endian (take 2 (drop i k)) ≡ get_or k i 0 * 256 + get_or k (i + 1) 0
+big_endian_two k i h =
+    let first = drop_more k i 0 (omega arith) in
+    let second = ap (λ l. get_or k i 0 ∷ l) (drop_more k (i + 1) 0 h) in
+    ap (λ l. big_endian (take 2 l)) (first ∙ second) ∙ omega arith
+
 stated_length : (k : List ℕ) → 12 ≤ length k → big_endian (take 2 (drop 2 k)) ≡ get_or k 2 0 * 256 + get_or k 3 0
-stated_length [] least = absurd (omega arith)
-stated_length (a ∷ []) least = absurd (omega arith)
-stated_length (a ∷ b ∷ []) least = absurd (omega arith)
-stated_length (a ∷ b ∷ c ∷ []) least = absurd (omega arith)
-stated_length (a ∷ b ∷ c ∷ d ∷ k) least = omega arith
+stated_length k least = big_endian_two k 2 (omega arith)
 
 pub flags_no : (k : List ℕ) → (get_or k 0 0 / 16 ≢ 3) ⊎ (bit_and (get_or k 0 0) 4 ≡ 0) → first_octets k ≡ refused (no_to Q.Flags 0)
 unfolding first_octets
