@@ -1,53 +1,60 @@
 -- Octets read back from the pairs that they are written as.
-use Rattle.std.proofs.Common.{◌≡◌, ℕ, ◌+◌, ◌-◌, ◌/◌, ◌%◌, ◌==◌, ◌<◌, ◌≤◌, true, false, ◌*◌, List, [], ◌∷◌, ◌++◌, length, get_or, take, drop, Ok, Err, Result, MatchResult, length-take, sym, refl, ap, ◌∙◌, subst, ap₂, ⊎_elim, arith}
-use Rattle.std.proofs.lemmas.Bool.Decides.{nat_tests}
-use Rattle.std.proofs.lemmas.Bool.{cases_lt}
-use Rattle.base.proofs.Bits.{below8}
+use Rattle.std.proofs.Common.{◌≡◌, ℕ, zero, suc, ◌+◌, ◌*◌, ◌/◌, ◌%◌, ◌<◌, ◌≤◌, List, [], ◌∷◌, ◌++◌, length, get_or, take, drop, set, sym, refl, ap, ◌∙◌, ap₂, arith, length-set, take-append-drop, take_all}
+use Rattle.std.proofs.lemmas.List.{take_more, take_more_set, drop-drop, drop-set-lt}
 use Rattle.base.specs.Octets.{Octets}
-use Rattle.hex.specs.declared.error.FromHexError.{FromHexError}
-use Rattle.base.proofs.Writing.{octets_at}
 use Rattle.bench.specs.Lines.{hex_digit, hex_pairs}
 use Rattle.bench.proofs.Pairs.{length_pairs}
-use Rattle.hex.specs.Hex.{encode_with, upper_digits, decode_pairs, decode_sized}
-use Rattle.hex.proofs.HexLemmas.{decode_pairs-encode_with, IsDigits-upper_digits}
 
--- the digits of the table are those of the lines
-digit_is : (d : ℕ) → d < 16 → get_or upper_digits d 0 ≡ hex_digit d
-digit_is d h = ⊎_elim low high (cases_lt d 8)
-  where
-    low : d < 8 → get_or upper_digits d 0 ≡ hex_digit d
-    low l = below8 (λ (d : ℕ). get_or upper_digits d 0 ≡ hex_digit d) refl refl refl refl refl refl refl refl d l
+-- the two digits of octet i
+pair_high : (os : List ℕ) (i : ℕ) → i < length os → get_or (hex_pairs os) (2 * i) 0 ≡ hex_digit (get_or os i 0 / 16)
+pair_high [] i h = absurd (let b : ⊥ = omega arith in b)
+pair_high (o ∷ os) zero h = refl
+pair_high (o ∷ os) (suc i) h =
+    let e : 2 * suc i ≡ suc (suc (2 * i)) = omega arith in
+    ap (λ (k : ℕ). get_or (hex_pairs (o ∷ os)) k 0) e ∙ pair_high os i (omega arith)
 
-    high : 8 ≤ d → get_or upper_digits d 0 ≡ hex_digit d
-    high l =
-        let q : 8 + (d - 8) ≡ d = omega arith in
-        subst (λ (d : ℕ). get_or upper_digits d 0 ≡ hex_digit d) q
-        (below8 (λ (e : ℕ). get_or upper_digits (8 + e) 0 ≡ hex_digit (8 + e)) refl refl refl refl refl refl refl refl (d - 8) (omega arith))
+pair_low : (os : List ℕ) (i : ℕ) → i < length os → get_or (hex_pairs os) (2 * i + 1) 0 ≡ hex_digit (get_or os i 0 % 16)
+pair_low [] i h = absurd (let b : ⊥ = omega arith in b)
+pair_low (o ∷ os) zero h = refl
+pair_low (o ∷ os) (suc i) h =
+    let e : 2 * suc i + 1 ≡ suc (suc (2 * i + 1)) = omega arith in
+    ap (λ (k : ℕ). get_or (hex_pairs (o ∷ os)) k 0) e ∙ pair_low os i (omega arith)
 
-pairs_encode : (os : List ℕ) → Octets os → encode_with upper_digits os ≡ hex_pairs os
-unfolding encode_with
-pairs_encode [] h = refl
-pairs_encode (o ∷ os) h =
-    ap₂ (λ (a b : ℕ). a ∷ b ∷ encode_with upper_digits os) (digit_is (o / 16) (omega (arith, h.0))) (digit_is (o % 16) (omega arith))
-    ∙ ap (λ (l : List ℕ). hex_digit (o / 16) ∷ hex_digit (o % 16) ∷ l) (pairs_encode os h.1)
+octet_at : (os : List ℕ) (i : ℕ) → Octets os → i < length os → get_or os i 0 < 256
+octet_at [] i h l = absurd (let b : ⊥ = omega arith in b)
+octet_at (o ∷ os) zero h l = h.0
+octet_at (o ∷ os) (suc i) h l = octet_at os i h.1 (omega arith)
 
--- what the pairs of octets decode to, given space for so many
-decode_sized-pairs : (os : List ℕ) → Octets os → (n : ℕ) → n ≡ length os → decode_sized (hex_pairs os) n ≡ Ok os
-decode_sized-pairs os h n e =
-    let d : decode_pairs 0 (hex_pairs os) ≡ Ok os =
-    ap (decode_pairs 0) (sym (pairs_encode os h)) ∙ decode_pairs-encode_with upper_digits IsDigits-upper_digits 0 os (octets_at os h) in
-    let l = length_pairs os in
-    let even : (length (hex_pairs os) % 2 == 1) ≡ false = grind (arith, nat_tests) in
-    let half : (length (hex_pairs os) / 2 == n) ≡ true = grind (arith, nat_tests) in
-    rw (even, half) d
+-- i octets are written
+pub record Decoded (ds b₀ : List ℕ) (i : ℕ) (b : List ℕ) : Type 0 where
+  pub done : (os : List ℕ) → Octets os → ds ≡ hex_pairs os → take i b ≡ take i os
+  pub beyond : drop i b ≡ drop i b₀
+  pub wide : length b ≡ length b₀
 
--- a buffer to whose start pairs are decoded
-pub decoded : (ds os buffer out : List ℕ) (r : Result (Unit {0}) FromHexError) → Octets os → ds ≡ hex_pairs os → length ds ≤ 2 * length buffer
-    → MatchResult (decode_sized ds (length (take (length ds / 2) buffer))) (λ bytes. (r ≡ Ok tt) × (out ≡ bytes)) (λ e. r ≡ Err e)
-    → (length ds / 2 ≡ length os) × (out ++ drop (length ds / 2) buffer ≡ os ++ drop (length os) buffer)
-decoded ds os buffer out r h e fits v =
-    let l : length ds / 2 ≡ length os = omega (arith, ap length e, length_pairs os) in
-    let n : length (take (length ds / 2) buffer) ≡ length os = omega (arith, l, length-take (length ds / 2) buffer) in
-    let d : decode_sized ds (length (take (length ds / 2) buffer)) ≡ Ok os = ap (λ (x : List ℕ). decode_sized x (length (take (length ds / 2) buffer))) e ∙ decode_sized-pairs os h _ n in
-    let w = subst (λ (x : Result (List ℕ) FromHexError). MatchResult x (λ bytes. (r ≡ Ok tt) × (out ≡ bytes)) (λ e. r ≡ Err e)) d v in
-    (l, ap₂ (λ (x : List ℕ) (k : ℕ). x ++ drop k buffer) w.1 l)
+pub decoded_none : (ds b : List ℕ) → Decoded ds b 0 b
+decoded_none ds b = record { done = λ os h e. refl; beyond = refl; wide = refl }
+
+pub decoded_more : (ds b₀ : List ℕ) (i : ℕ) (b : List ℕ) (x y : ℕ) → Decoded ds b₀ i b → i < length b → i < length ds / 2
+    → ((d : ℕ) → d < 16 → get_or ds (2 * i) 0 ≡ hex_digit d → x ≡ d)
+    → ((d : ℕ) → d < 16 → get_or ds (2 * i + 1) 0 ≡ hex_digit d → y ≡ d)
+    → Decoded ds b₀ (i + 1) (set b i (x * 16 + y))
+decoded_more ds b₀ i b x y f hb hd ex ey = record {
+  done = λ os h e.
+      let l : i < length os = omega (arith, ap length e, length_pairs os) in
+      let o = octet_at os i h l in
+      let q = ex (get_or os i 0 / 16) (omega arith) (ap (λ (k : List ℕ). get_or k (2 * i) 0) e ∙ pair_high os i l) in
+      let r = ey (get_or os i 0 % 16) (omega arith) (ap (λ (k : List ℕ). get_or k (2 * i + 1) 0) e ∙ pair_low os i l) in
+      let v : x * 16 + y ≡ get_or os i 0 = omega (arith, q, r) in
+      take_more_set b i (x * 16 + y) hb ∙ ap₂ (λ (s : List ℕ) (t : ℕ). s ++ t ∷ []) (f.done os h e) v ∙ sym (take_more os i 0 l);
+  beyond = drop-set-lt (i + 1) b i (x * 16 + y) (omega arith) ∙ sym (drop-drop 1 i b) ∙ ap (drop 1) f.beyond ∙ drop-drop 1 i b₀;
+  wide = length-set b i (x * 16 + y) ∙ f.wide;
+}
+
+pub decoded_all : (ds b₀ : List ℕ) (i : ℕ) (b : List ℕ) (n : ℕ) → Decoded ds b₀ i b → n ≡ length ds / 2 → n ≤ i → i ≤ n
+    → (os : List ℕ) → Octets os → ds ≡ hex_pairs os → (n ≡ length os) × (b ≡ os ++ drop (length os) b₀)
+decoded_all ds b₀ i b n f en lo hi os h e =
+    let l : i ≡ length os = omega (arith, ap length e, length_pairs os) in (
+      omega arith,
+      sym (take-append-drop i b)
+          ∙ ap₂ (λ (s t : List ℕ). s ++ t) (f.done os h e ∙ take_all i os (omega arith)) (f.beyond ∙ ap (λ (k : ℕ). drop k b₀) l),
+    )

@@ -41,6 +41,10 @@ impl<'a, L: Layout> Iterator for Items<'a, L> {
     // Not inlined, it makes a read 8 percent slower.
     #[inline(always)]
     fn next(&mut self) -> Option<Item> {
+        // The layout is asked nothing past its end, where an answer may cost as much as any.
+        if self.at >= self.count {
+            return None;
+        }
         let item = self.layout.item(self.at)?;
         self.at += 1;
         Some(item)

@@ -77,6 +77,8 @@ impl<'a> Layout for FileLayout<'a> {
     }
 
     #[tactic(auto, using(crate::proofs::Passing::item_here, crate::proofs::Passing::item_past))]
+    // Not inlined, it makes a walk over the items a fifth slower.
+    #[inline(always)]
     fn item(&self, i: usize) -> Option<Item> {
         self.entry(i)?.accept()
     }

@@ -1,5 +1,10 @@
-use Rattle.bench.proofs.Decoding.{decoded}
+use Rattle.std.proofs.Common.{refl, arith}
+use Rattle.bench.proofs.Decoding.{decoded_more, decoded_all}
 use Rattle.bench.proofs.digits.decode.Goals as goal
 
+pub loop-i-preserved : goal.loop-i-preserved
+loop-i-preserved c =
+    decoded_more _ _ _ _ _ _ c.loop-i.invariant (omega arith) (omega arith) c.digit_value.ensures.value c.digit_value-in-loop-i.ensures.value
+
 pub returns : goal.returns
-returns c = λ os h e. decoded _ os _ _ _ h e c.requires c.decode_to_slice.ensures.value
+returns c = decoded_all _ _ _ _ _ c.loop-i.invariant refl (omega arith) (omega arith)
